@@ -1,0 +1,14 @@
+pub mod Totals
+pub mod Listed
+pub mod Rising
+pub mod Membership
+pub mod Kept
+pub mod Served
+pub mod Shares
+pub mod Duality
+pub mod Leaves
+pub mod Closing
+pub mod LowEnds
+pub mod Claims
+pub mod Places
+pub mod Table

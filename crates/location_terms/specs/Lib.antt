@@ -1,0 +1,9 @@
+pub mod Instance
+pub mod Plan
+pub mod Optimal
+pub mod Box
+pub mod Bound
+pub mod Fit
+pub mod Tree
+pub mod Certificate
+pub mod Plain
