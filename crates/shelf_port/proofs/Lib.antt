@@ -1,0 +1,5 @@
+pub mod Lists
+pub mod Told
+pub mod Reading
+pub mod Entries
+pub mod Results

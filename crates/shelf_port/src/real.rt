@@ -1,0 +1,188 @@
+// The files, the standard input and the standard output of the host. They tell nothing of what they
+// hold, so nothing is proved of it. Each fault is counted.
+ghost use Rattle.std.specs.Prelude.{◌≡◌, ◌<◌, ◌≤◌, length, None, IfOk};
+ghost use Rattle.shelf_port.specs.Files.{Rose};
+ghost use Rattle.shelf_port.specs.Real.{file_read_faults, file_write_faults, input_faults, output_faults};
+
+use crate::fault::{ShelfFault, SinkFault, SourceFault};
+use crate::ports::{Shelf, Sink, Source};
+use std::fs::{Files, OpenOptions};
+use std::io::{ErrorKind, Read, Seek, SeekFrom, Write};
+use std::{fs, io};
+
+/// How often a call is made that signals interrupt.
+const TRIES: usize = 64;
+
+/// The host's files, by path. It tells nothing of them.
+#[derive(Drop)]
+pub struct RealShelf<R> {
+    rt: R,
+    read_faults: u64,
+    write_faults: u64,
+}
+
+impl<R: Files> RealShelf<R> {
+    /// The files that a runtime reaches.
+    pub fn new(rt: R) -> Self
+        ensures reads { file_read_faults result ≡ 0 }
+        ensures writes { file_write_faults result ≡ 0 }
+    {
+        RealShelf {
+            rt,
+            read_faults: 0,
+            write_faults: 0,
+        }
+    }
+}
+
+impl<R: Files> Shelf for RealShelf<R> {
+    ghost files = { λ _. None };
+
+    ghost read_faults = { λ s _. s.read_faults };
+
+    ghost write_faults = { λ s _. s.write_faults };
+
+    fn read_at(&mut self, name: &str, at: u64, into: &mut [u8]) -> Result<usize, ShelfFault> {
+        match read_file(&self.rt, name, at, into) {
+            Ok(count) => Ok(count),
+            Err(e) => Err(shelf_fault(&e, &mut self.read_faults)),
+        }
+    }
+
+    fn create(&mut self, name: &str) -> Result<(), ShelfFault> {
+        match fs::create(&self.rt, name) {
+            Ok(_) => Ok(()),
+            Err(e) => Err(shelf_fault(&e, &mut self.write_faults)),
+        }
+    }
+
+    fn append(&mut self, name: &str, bytes: &[u8]) -> Result<usize, ShelfFault> {
+        match append_file(&self.rt, name, bytes) {
+            Ok(count) => Ok(count),
+            Err(e) => Err(shelf_fault(&e, &mut self.write_faults)),
+        }
+    }
+}
+
+/// The host's standard input. It tells nothing of what is left.
+#[derive(Drop)]
+pub struct RealSource<R> {
+    rt: R,
+    faults: u64,
+}
+
+impl<R: Input> RealSource<R> {
+    /// The standard input of a runtime.
+    pub fn new(rt: R) -> Self
+        ensures { input_faults result ≡ 0 }
+    {
+        RealSource { rt, faults: 0 }
+    }
+}
+
+impl<R: Input> Source for RealSource<R> {
+    ghost left = { λ _. None };
+
+    ghost faults = { λ s. s.faults };
+
+    fn read(&mut self, into: &mut [u8]) -> Result<usize, SourceFault> {
+        match read_some(&mut self.rt.reader(), into) {
+            Ok(count) => Ok(count),
+            Err(e) if e.kind() == ErrorKind::OutOfMemory => Err(SourceFault::NoMemory),
+            Err(_) => {
+                self.faults = self.faults.saturating_add(1);
+                Err(SourceFault::Failed)
+            }
+        }
+    }
+}
+
+/// The host's standard output. It tells nothing of what was written. Each piece goes to the host at
+/// once.
+#[derive(Drop)]
+pub struct RealSink<R> {
+    rt: R,
+    faults: u64,
+}
+
+impl<R: Print> RealSink<R> {
+    /// The standard output of a runtime.
+    pub fn new(rt: R) -> Self
+        ensures { output_faults result ≡ 0 }
+    {
+        RealSink { rt, faults: 0 }
+    }
+}
+
+impl<R: Print> Sink for RealSink<R> {
+    ghost written = { λ _. None };
+
+    ghost faults = { λ s. s.faults };
+
+    fn write(&mut self, bytes: &[u8]) -> Result<usize, SinkFault> {
+        match write_some(&mut io::writer(&self.rt), bytes) {
+            Ok(count) => Ok(count),
+            Err(e) if e.kind() == ErrorKind::OutOfMemory => Err(SinkFault::NoMemory),
+            Err(_) => {
+                self.faults = self.faults.saturating_add(1);
+                Err(SinkFault::Failed)
+            }
+        }
+    }
+}
+
+// The refusal for an error of the host. It counts, unless memory ran out.
+fn shelf_fault(error: &io::Error, faults: &mut u64) -> ShelfFault
+    ensures failed { result ≡ ShelfFault.Failed → Rose faults.old faults.new }
+    ensures counts { faults.old ≤ faults.new }
+{
+    if error.kind() == ErrorKind::OutOfMemory {
+        return ShelfFault::NoMemory;
+    }
+    *faults = faults.saturating_add(1);
+    ShelfFault::Failed
+}
+
+fn read_file<R: Files>(rt: &R, name: &str, at: u64, into: &mut [u8]) -> io::Result<usize>
+    ensures { IfOk result (λ n. n ≤ length into.new) }
+{
+    let mut file = fs::open(rt, name)?;
+    file.seek(SeekFrom::Start(at))?;
+    read_some(&mut file, into)
+}
+
+fn append_file<R: Files>(rt: &R, name: &str, bytes: &[u8]) -> io::Result<usize>
+    ensures bound { IfOk result (λ n. n ≤ length bytes.now) }
+    ensures progress { IfOk result (λ n. 0 < length bytes.now → 0 < n) }
+{
+    let mut file = OpenOptions::new().append(true).create(true).open(rt, name)?;
+    write_some(&mut file, bytes)
+}
+
+// One read that no signal interrupted.
+fn read_some<R: Read>(from: &mut R, into: &mut [u8]) -> io::Result<usize>
+    ensures { IfOk result (λ n. n ≤ length into.new) }
+{
+    for _ in 0..TRIES {
+        match from.read(into) {
+            Err(e) if e.kind() == ErrorKind::Interrupted => {}
+            read => return read,
+        }
+    }
+    Err(io::Error::from(ErrorKind::Interrupted))
+}
+
+// One write that no signal interrupted. To write nothing of a piece is an error.
+fn write_some<W: Write>(to: &mut W, bytes: &[u8]) -> io::Result<usize>
+    ensures bound { IfOk result (λ n. n ≤ length bytes.now) }
+    ensures progress { IfOk result (λ n. 0 < length bytes.now → 0 < n) }
+{
+    for _ in 0..TRIES {
+        match to.write(bytes) {
+            Err(e) if e.kind() == ErrorKind::Interrupted => {}
+            Ok(0) if !bytes.is_empty() => return Err(io::Error::from(ErrorKind::WriteZero)),
+            written => return written,
+        }
+    }
+    Err(io::Error::from(ErrorKind::Interrupted))
+}
