@@ -1,0 +1,25 @@
+-- What a scanner has left of a text.
+use Rattle.std.specs.Prelude.{ℕ, ◌+◌, ◌≤◌, ◌^◌, List, [], ◌∷◌, ◌++◌}
+use Rattle.std.specs.List.{slice_split}
+use Rattle.fixed_cost.specs.Words.{PlacedWord, is_line_feed, runs_of, words_in_line, words_in_lines}
+use Rattle.fixed_cost.specs.declared.scan.Words.TheInside.{Inside}
+
+-- the words of lines, of which the first goes on at a line and a place
+abbrev pub words_after : ℕ → ℕ → List (List ℕ) → List PlacedWord
+words_after line place [] = []
+words_after line place (l ∷ ls) = words_in_line line place (runs_of l) ++ words_in_lines (line + 1) ls
+
+-- the words of a text that goes on at a line and a place
+unfoldable pub words_left : ℕ → ℕ → List ℕ → List PlacedWord
+words_left line place bytes = words_after line place (slice_split is_line_feed bytes)
+
+-- the words that are left behind the scanner's place
+unfoldable pub words_behind : Inside → List PlacedWord
+words_behind s = words_left s.line s.place s.rest.now
+
+-- numbers of lines and places have room for the bytes that are left
+pub record HasRoom (line place len : ℕ) : Type 0 where
+  pub line_counts : 1 ≤ line
+  pub place_counts : 1 ≤ place
+  pub line_fits : line + len ≤ 2 ^ 28 + 1
+  pub place_fits : place + len ≤ 2 ^ 28 + 1

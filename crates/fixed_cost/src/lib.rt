@@ -1,0 +1,23 @@
+//! Amounts, the words of a text, and the places of faults in it.
+//!
+//! The readers of instance files, the session and the certificate's text stand on these words: what a
+//! number's word means, where a word stands, and which fault is told of it.
+#![tactic(auto)]
+
+mod amount;
+mod digits;
+mod fault;
+mod print;
+mod reader;
+mod scan;
+mod word;
+
+pub use amount::{Amount, AmountFault, MAX_AMOUNT, read_count};
+pub use fault::{FileFault, FileKind, FormFault};
+pub use print::print_micro;
+pub use reader::WordReader;
+pub use scan::Words;
+pub use word::Word;
+
+#[cfg(test)]
+mod tests;
