@@ -1,0 +1,4 @@
+pub mod Small
+pub mod Parts
+pub mod Places
+pub mod Stored

@@ -1,0 +1,95 @@
+use super::*;
+use std::alloc::Global;
+use std::test::Fail;
+
+// Two sites and three customers, in millionths. The ids have gaps, a lane is missing, and one site
+// has a capacity.
+fn example(alloc: Global) -> Result<Instance, Fail> {
+    let near = LaneRow::from_vec(vec![in alloc; Some(1_000_000), Some(2_000_000), None]?);
+    let far = LaneRow::from_vec(vec![in alloc; Some(8_000_000), Some(7_000_000), Some(1_000_000)]?);
+    let sites = vec![in alloc;
+        SiteRow {
+            id: SiteId::new(3),
+            fixed: 10_000_000,
+            cap: None,
+            lanes: near
+        },
+        SiteRow {
+            id: SiteId::new(7),
+            fixed: 12_000_000,
+            cap: Some(5_000_000),
+            lanes: far
+        },
+    ]?;
+    let custs = vec![in alloc;
+        CustRow {
+            id: CustId::new(2),
+            demand: 1_500_000
+        },
+        CustRow {
+            id: CustId::new(4),
+            demand: 2_000_000
+        },
+        CustRow {
+            id: CustId::new(9),
+            demand: 2_500_000
+        },
+    ]?;
+    Ok(Instance::from_parts(alloc, 1, 2, 8, 11, custs, sites)?)
+}
+
+// Whether this site stands at the place, and is found there.
+fn has_site(inst: &Instance, i: usize, id: u32, fixed: u64, cap: Option<u64>) -> bool {
+    i < inst.sites()
+        && inst.site_id(i).number() == id
+        && inst.fixed(i) == fixed
+        && inst.cap(i) == cap
+        && inst.status(i) == SiteStatus::Free
+        && inst.site_at(SiteId::new(id)) == Some(i)
+}
+
+fn has_customer(inst: &Instance, j: usize, id: u32, demand: u64) -> bool {
+    j < inst.custs()
+        && inst.cust_id(j).number() == id
+        && inst.demand(j) == demand
+        && inst.cust_at(CustId::new(id)) == Some(j)
+}
+
+// Whether these lanes go from the site at the place, read at once and one by one.
+fn has_lanes(inst: &Instance, i: usize, row: [Option<u64>; 3]) -> bool {
+    i < inst.sites()
+        && inst.custs() == 3
+        && inst.lanes(i) == row.as_slice()
+        && inst.lane(i, 0) == row[0]
+        && inst.lane(i, 1) == row[1]
+        && inst.lane(i, 2) == row[2]
+}
+
+#[test]
+fn looks_up_each_place_and_id(rt: HostRuntime) -> Result<(), Fail> {
+    let inst = example(rt.alloc())?;
+    assert!(rt; inst.sites() == 2 && inst.custs() == 3);
+    assert!(rt; inst.count() == (1, 2) && inst.next_ids() == (8, 11));
+
+    assert!(rt; has_site(&inst, 0, 3, 10_000_000, None));
+    assert!(rt; has_site(&inst, 1, 7, 12_000_000, Some(5_000_000)));
+    assert!(rt; has_customer(&inst, 0, 2, 1_500_000));
+    assert!(rt; has_customer(&inst, 1, 4, 2_000_000));
+    assert!(rt; has_customer(&inst, 2, 9, 2_500_000));
+    assert!(rt; has_lanes(&inst, 0, [Some(1_000_000), Some(2_000_000), None]));
+    assert!(rt;
+        has_lanes(
+            &inst,
+            1,
+            [Some(8_000_000), Some(7_000_000), Some(1_000_000)]
+        )
+    );
+
+    for id in [0, 1, 2, 4, 6, 8] {
+        assert!(rt; inst.site_at(SiteId::new(id)) == None);
+    }
+    for id in [0, 1, 3, 7, 10, 11] {
+        assert!(rt; inst.cust_at(CustId::new(id)) == None);
+    }
+    Ok(())
+}
