@@ -1,0 +1,4 @@
+pub mod Rising
+pub mod Tested
+pub mod Served
+pub mod Sums
