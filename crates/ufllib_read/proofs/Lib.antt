@@ -1,0 +1,4 @@
+pub mod Counts
+pub mod ReadRows
+pub mod PlainRows
+pub mod Whole
