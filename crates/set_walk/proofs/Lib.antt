@@ -1,0 +1,4 @@
+pub mod Members
+pub mod Costs
+pub mod Least
+pub mod Steps
