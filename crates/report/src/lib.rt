@@ -1,0 +1,6 @@
+//! What is told of an answer, as text.
+#![tactic(auto)]
+
+mod plan;
+
+pub use plan::plan_text;

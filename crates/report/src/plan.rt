@@ -1,0 +1,124 @@
+//! The plan text.
+ghost use Rattle.std.specs.Prelude.{◌≡◌, ◌++◌, ◌<◌, length, IfOk, OnOk, IfSome, decimal, flat_map};
+ghost use Rattle.std.specs.Option.{option_copied};
+ghost use Rattle.location_terms.specs.Instance.{IsValid};
+ghost use Rattle.location_terms.specs.Plan.{IsFeasible};
+ghost use Rattle.fixed_cost.specs.Print.{micro_text};
+ghost use Rattle.plan_meaning.specs.Plan.{serve_at};
+ghost use Rattle.report.specs.PlanText.{plan_text_of, claim_line, site_line, serve_line, high_text};
+
+use fixed_cost::print_micro;
+use instance_store::{Instance, NoMemory};
+use itoa::Buffer;
+use location_terms::Claim;
+use plan_meaning::{Plan, fixed_cost, lane_used};
+use std::alloc::{AllocError, Global};
+
+/// The text of a claim and of the plan that comes with it: a line for each open site, then one for
+/// each customer, both by ascending id. Costs are in units with six decimals.
+///
+/// Only want of memory fails.
+pub fn plan_text(
+    alloc: Global,
+    inst: &Instance,
+    claim: &Claim,
+    plan: Option<&Plan>,
+) -> Result<Vec<u8>, NoMemory>
+    requires { IfSome (option_copied plan) (IsFeasible inst.now) }
+    ensures { IfOk result (λ text. text.items ≡ plan_text_of inst.now claim.now (option_copied plan.entry)) }
+{
+    let mut text = Vec::from_slice(alloc, b"dualoc-plan 1\n")?;
+    push_claim(&mut text, claim)?;
+    if let Some(plan) = plan {
+        push_sites(&mut text, inst, plan)?;
+        push_serves(&mut text, inst, plan)?;
+    }
+    text.extend_from_slice(b"end\n")?;
+    Ok(text)
+}
+
+fn push_claim(text: &mut Vec<u8>, claim: &Claim) -> Result<(), AllocError>
+    ensures { OnOk result (text.new.items ≡ text.old.items ++ claim_line claim.now) }
+{
+    match claim {
+        Claim::Optimal(cost) => {
+            text.extend_from_slice(b"optimal ")?;
+            push_amount(text, *cost)?;
+        }
+        Claim::Infeasible => text.extend_from_slice(b"infeasible")?,
+        Claim::Bracket { low, high } => {
+            text.extend_from_slice(b"bracket ")?;
+            push_amount(text, *low)?;
+            text.extend_from_slice(b" ")?;
+            push_high(text, *high)?;
+        }
+    }
+    text.extend_from_slice(b"\n")
+}
+
+fn push_high(text: &mut Vec<u8>, high: Option<u64>) -> Result<(), AllocError>
+    ensures { OnOk result (text.new.items ≡ text.old.items ++ high_text high) }
+{
+    match high {
+        None => text.extend_from_slice(b"none"),
+        Some(cost) => push_amount(text, cost),
+    }
+}
+
+fn push_sites(text: &mut Vec<u8>, inst: &Instance, plan: &Plan) -> Result<(), AllocError>
+    requires { IsFeasible inst.now plan.now }
+    ensures { OnOk result (text.new.items ≡ text.old.items ++ flat_map (site_line inst.now) plan.now.sites) }
+{
+    let _places = inst.sites();
+    for k in 0..plan.site_count() {
+        let site = plan.site(k);
+        text.extend_from_slice(b"site ")?;
+        push_number(text, site.number())?;
+        text.extend_from_slice(b" ")?;
+        push_amount(text, fixed_cost(inst, site))?;
+        text.extend_from_slice(b"\n")?;
+    }
+    Ok(())
+}
+
+fn push_serves(text: &mut Vec<u8>, inst: &Instance, plan: &Plan) -> Result<(), AllocError>
+    requires { IsFeasible inst.now plan.now }
+    ensures { OnOk result (text.new.items ≡ text.old.items ++ flat_map (serve_line inst.now) plan.now.serves) }
+{
+    let _places = inst.sites();
+    for k in 0..plan.serve_count() {
+        push_serve(text, inst, plan, k)?;
+    }
+    Ok(())
+}
+
+fn push_serve(text: &mut Vec<u8>, inst: &Instance, plan: &Plan, k: usize) -> Result<(), AllocError>
+    requires place { k < length plan.now.serves }
+    requires valid { IsValid inst.now }
+    requires feasible { IsFeasible inst.now plan.now }
+    ensures { OnOk result (text.new.items ≡ text.old.items ++ serve_line inst.now (serve_at plan.now k)) }
+{
+    let (cust, site) = plan.serve(k);
+    let cost = lane_used(inst, plan, k).unwrap_or(0);
+    text.extend_from_slice(b"serve ")?;
+    push_number(text, cust.number())?;
+    text.extend_from_slice(b" ")?;
+    push_number(text, site.number())?;
+    text.extend_from_slice(b" ")?;
+    push_amount(text, cost)?;
+    text.extend_from_slice(b"\n")
+}
+
+fn push_number(text: &mut Vec<u8>, n: u32) -> Result<(), AllocError>
+    ensures { OnOk result (text.new.items ≡ text.old.items ++ decimal n) }
+{
+    text.extend_from_slice(Buffer::new().format(n).as_bytes())
+}
+
+fn push_amount(text: &mut Vec<u8>, micro: u64) -> Result<(), AllocError>
+    ensures { OnOk result (text.new.items ≡ text.old.items ++ micro_text micro) }
+{
+    let mut buffer = [0; 24];
+    let len = print_micro(micro, &mut buffer);
+    text.extend_from_slice(&buffer[..len])
+}
