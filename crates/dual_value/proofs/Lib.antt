@@ -1,0 +1,4 @@
+pub mod Unbarred
+pub mod Torn
+pub mod Sizes
+pub mod Unpaid

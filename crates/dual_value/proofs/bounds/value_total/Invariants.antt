@@ -1,0 +1,11 @@
+use Rattle.std.proofs.Common.{◌≡◌, ◌*◌, ◌≤◌}
+use Rattle.std.specs.Int.RustNames.{unsigned_abs}
+use Rattle.location_terms.specs.Bound.{total, v_at}
+use Rattle.location_terms.specs.declared.limits.TheConstants.{MAX_VALUE}
+use Rattle.dual_value.proofs.bounds.value_total.Given as goal
+
+abbrev pub invariant-loop-value : goal.invariant-loop-value
+invariant-loop-value l = record {
+  exact : l.sum ≡ total (v_at l.duals) l.value-index;
+  small : unsigned_abs l.sum ≤ l.value-index * MAX_VALUE;
+}

@@ -1,0 +1,4 @@
+pub mod Lanes
+pub mod SiteState
+pub mod Paid
+pub mod RangeFault
