@@ -1,0 +1,7 @@
+use Rattle.std.proofs.Common.{sym, subst, lit≤}
+use Rattle.location_terms.specs.Fit.{DualsFit}
+use Rattle.branch_tree.proofs.Stored.{zeros_fit}
+use Rattle.branch_tree.proofs.tree.Tree.root.Goals as goal
+
+pub leaf-requires : goal.leaf-requires
+leaf-requires c = subst (DualsFit c.args.inst.now) (sym c.in_ok-duals.ensures) (zeros_fit c.args.inst.now 1 (lit≤ tt))

@@ -1,0 +1,4 @@
+pub mod Preorder
+pub mod Made
+pub mod Walk
+pub mod Leaf

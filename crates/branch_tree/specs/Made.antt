@@ -1,0 +1,35 @@
+-- The trees that the constructors make, and a tree's nodes as they are shown.
+use Rattle.std.specs.Prelude.{ℕ, List, [], ◌∷◌, ◌++◌, length, replicate, pos}
+use Rattle.location_terms.specs.Instance.{Instance, site_ids, customer_ids}
+use Rattle.location_terms.specs.Bound.{Duals}
+use Rattle.location_terms.specs.Tree.{Node, Leaf, OnSite, OnLane, Tree}
+use Rattle.branch_tree.specs.declared.entry.Entry.{Entry}
+use Rattle.branch_tree.specs.declared.entry.Entry.TheVariants.{End, SiteSplit, LaneSplit}
+use Rattle.branch_tree.specs.declared.node.Node.{Node as Shown}
+use Rattle.branch_tree.specs.declared.node.Node.TheVariants as shown
+
+-- one leaf with these duals, on the instance's ids
+abbrev pub leaf_of : Instance → Duals → Tree
+leaf_of I d = record { sites = site_ids I; customers = customer_ids I; root = Leaf d }
+
+-- duals that are 0 for the whole instance, at this scale
+abbrev pub zeros_of : Instance → ℕ → Duals
+zeros_of I q = record { q = q; nu = pos 0; v = replicate (length I.customers) (pos 0); u = replicate (length I.sites) 0 }
+
+-- a split whose children are these trees, on the ids of the first
+abbrev pub split_on_site : ℕ → Tree → Tree → Tree
+split_on_site s closed opened = record { sites = closed.sites; customers = closed.customers; root = OnSite s closed.root opened.root }
+
+abbrev pub split_on_lane : ℕ → ℕ → Tree → Tree → Tree
+split_on_lane s c without using = record { sites = without.sites; customers = without.customers; root = OnLane s c without.root using.root }
+
+-- the nodes in preorder, without their duals
+abbrev pub nodes_shown : Node → List Shown
+nodes_shown (Leaf d) = shown.Leaf ∷ []
+nodes_shown (OnSite s closed opened) = shown.Site s ∷ (nodes_shown closed ++ nodes_shown opened)
+nodes_shown (OnLane s c without using) = shown.Lane s c ∷ (nodes_shown without ++ nodes_shown using)
+
+abbrev pub entry_shown : Entry → Shown
+entry_shown (End d) = shown.Leaf
+entry_shown (SiteSplit s) = shown.Site s
+entry_shown (LaneSplit s c) = shown.Lane s c

@@ -1,0 +1,64 @@
+-- A walk over the nodes of a tree in preorder, which keeps the path to the next node.
+use Rattle.std.specs.Prelude.{ℕ, List, [], ◌∷◌, ◌++◌, Option, Some, None, unwrap_or, fold, nat_lt, min, if◌then◌else◌}
+use Rattle.branch_tree.specs.declared.entry.Entry.{Entry}
+use Rattle.branch_tree.specs.declared.entry.Entry.TheVariants.{End, SiteSplit, LaneSplit}
+use Rattle.location_terms.specs.declared.decision.Decision.{Decision}
+use Rattle.location_terms.specs.declared.decision.Decision.TheVariants.{Opened, Closed, Yes, No}
+use Rattle.location_terms.specs.Instance.{Instance}
+use Rattle.location_terms.specs.Box.{Path}
+use Rattle.location_terms.specs.Bound.{Duals, bound_of}
+use Rattle.location_terms.specs.Fit.{DualsFit}
+use Rattle.location_terms.specs.Tree.{low_end}
+
+-- the decision of a split's second child, from that of its first
+abbrev pub second_child : Decision → Option Decision
+second_child (Closed s) = Some (Opened s)
+second_child (No s c) = Some (Yes s c)
+second_child (Opened s) = None
+second_child (Yes s c) = None
+
+abbrev pub one_step : Option Decision → Option Path
+one_step (Some d) = Some (d ∷ [])
+one_step None = None
+
+abbrev pub turned_within : Decision → Option Path → Option Path
+turned_within d (Some rest) = Some (d ∷ rest)
+turned_within d None = one_step (second_child d)
+
+-- the path to the second child of the last split whose first child the path is in
+unfoldable pub turned : Path → Option Path
+turned [] = None
+turned (d ∷ ds) = turned_within d (turned ds)
+
+-- where the walk goes when the tree at the path is done, and the root's path when all is done
+unfoldable pub next : Path → Path
+next path = unwrap_or (turned path) []
+
+-- the path to the node after this one
+abbrev pub passed : Path → Entry → Path
+passed path (End d) = next path
+passed path (SiteSplit s) = path ++ Closed s ∷ []
+passed path (LaneSplit s c) = path ++ No s c ∷ []
+
+abbrev pub leaf_at : Path → Entry → List (Path × Duals)
+leaf_at path (End d) = (path, d) ∷ []
+leaf_at path (SiteSplit s) = []
+leaf_at path (LaneSplit s c) = []
+
+-- the leaves that a walk comes to from here on
+abbrev pub leaves_ahead : Path → List Entry → List (Path × Duals)
+leaves_ahead path [] = []
+leaves_ahead path (e ∷ es) = leaf_at path e ++ leaves_ahead (passed path e) es
+
+-- the duals of a leaf fit
+abbrev pub EndFits : Instance → Entry → Type 0
+EndFits I (End d) = DualsFit I d
+EndFits I (SiteSplit s) = Unit {0}
+EndFits I (LaneSplit s c) = Unit {0}
+
+-- the lesser of the number and of the low end of a leaf with a scale
+abbrev pub lowered : Instance → ℕ → Path × Duals → ℕ
+lowered I least l = if nat_lt 0 l.1.q then min least (low_end (bound_of I l.0 l.1) l.1.q) else least
+
+abbrev pub lowered_all : Instance → ℕ → List (Path × Duals) → ℕ
+lowered_all I least leaves = fold (lowered I) least leaves

@@ -1,0 +1,11 @@
+use dual_value::Duals;
+use location_terms::{CustId, SiteId};
+
+/// A node of a tree that is kept as a list in preorder: the end of a path, or a split, whose two
+/// children follow it.
+#[derive(Debug, Drop)]
+pub enum Entry {
+    End(Duals),
+    SiteSplit(SiteId),
+    LaneSplit(SiteId, CustId),
+}

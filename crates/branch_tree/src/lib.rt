@@ -1,0 +1,15 @@
+//! Trees of boxes, which certificates carry and searches grow: a leaf has duals, and a split on a site
+//! or a lane has two children that together hold every plan of its box. A clause sees a tree as the
+//! definition of `location_terms`.
+#![tactic(auto)]
+
+mod bounds;
+mod entry;
+mod leaves;
+mod node;
+mod tree;
+mod walk;
+
+pub use dual_value::{Decision, Duals, Path};
+pub use node::Node;
+pub use tree::Tree;

@@ -1,0 +1,103 @@
+//! One walk over the nodes of a tree in preorder. The path to the next node is all that it keeps: its
+//! last step says whether the split above has its second child still to come.
+ghost use Rattle.std.specs.Prelude.{◌≡◌, ◌≤◌, ◌↔◌, [], All, IfOk, OnOk, IsTrue, length};
+ghost use Rattle.location_terms.specs.Instance.{site_ids, customer_ids};
+ghost use Rattle.location_terms.specs.Fit.{Closes, DualsFit};
+ghost use Rattle.location_terms.specs.declared.limits.TheConstants.{MAX_COST};
+ghost use Rattle.branch_tree.specs.Preorder.{IsSound};
+ghost use Rattle.branch_tree.specs.Walk.{second_child, next, passed, leaf_at, leaves_ahead, EndFits, lowered_all};
+
+use crate::bounds::{closes_box, lowered};
+use crate::entry::Entry;
+use dual_value::Path;
+use instance_store::{Instance, NoMemory};
+use location_terms::{Decision, MAX_COST};
+use std::alloc::Global;
+
+// Whether each leaf closes.
+pub(crate) fn all_close(
+    alloc: Global,
+    nodes: &[Entry],
+    inst: &Instance,
+    target: Option<u64>,
+) -> Result<bool, NoMemory>
+    requires { All (IsSound (site_ids inst.now) (customer_ids inst.now)) nodes.now }
+    ensures { IfOk result (λ yes. IsTrue yes ↔ All (λ l. Closes inst.now l.0 l.1 target) (leaves_ahead [] nodes.now)) }
+{
+    let mut path = Path::root(alloc);
+    for entry in nodes {
+        if !end_closes(entry, inst, &path, target) {
+            return Ok(false);
+        }
+        pass(&mut path, entry)?;
+    }
+    Ok(true)
+}
+
+// The least low end of the leaves with a scale, and `MAX_COST` where there is none.
+pub(crate) fn least_low(alloc: Global, nodes: &[Entry], inst: &Instance) -> Result<u64, NoMemory>
+    requires { All (EndFits inst.now) nodes.now }
+    ensures { IfOk result (λ low. low ≡ lowered_all inst.now MAX_COST (leaves_ahead [] nodes.now)) }
+{
+    let mut path = Path::root(alloc);
+    let mut least = MAX_COST;
+    for entry in nodes {
+        least = end_lowered(entry, inst, &path, least);
+        pass(&mut path, entry)?;
+    }
+    Ok(least)
+}
+
+fn end_closes(entry: &Entry, inst: &Instance, path: &Path, target: Option<u64>) -> bool
+    requires { IsSound (site_ids inst.now) (customer_ids inst.now) entry.now }
+    ensures { IsTrue result ↔ All (λ l. Closes inst.now l.0 l.1 target) (leaf_at path.now entry.now) }
+{
+    match entry {
+        Entry::End(duals) => closes_box(inst, path, duals, target),
+        _ => true,
+    }
+}
+
+fn end_lowered(entry: &Entry, inst: &Instance, path: &Path, least: u64) -> u64
+    requires { EndFits inst.now entry.now }
+    ensures { result ≡ lowered_all inst.now least (leaf_at path.now entry.now) }
+{
+    match entry {
+        Entry::End(duals) => lowered(inst, path, duals, least),
+        _ => least,
+    }
+}
+
+// From the path to a node to the path to the node after it.
+pub(crate) fn pass(path: &mut Path, entry: &Entry) -> Result<(), NoMemory>
+    ensures { OnOk result (path.new ≡ passed path.old entry.now) }
+{
+    match entry {
+        Entry::End(_) => turn(path),
+        Entry::SiteSplit(site) => path.push(Decision::Closed(*site)),
+        Entry::LaneSplit(site, cust) => path.push(Decision::No(*site, *cust)),
+    }
+}
+
+// From a tree that is done to the second child of the last split that has it still to come.
+fn turn(path: &mut Path) -> Result<(), NoMemory>
+    ensures { OnOk result (path.new ≡ next path.old) }
+{
+    while path.steps() > 0 {
+        if let Some(step) = second_child(path.pop()) {
+            path.push(step)?;
+            return Ok(());
+        }
+    }
+    Ok(())
+}
+
+fn second_child(step: Decision) -> Option<Decision>
+    ensures { result ≡ second_child step }
+{
+    match step {
+        Decision::Closed(site) => Some(Decision::Opened(site)),
+        Decision::No(site, cust) => Some(Decision::Yes(site, cust)),
+        Decision::Opened(_) | Decision::Yes(_, _) => None,
+    }
+}
