@@ -1,0 +1,36 @@
+ghost use Rattle.std.specs.Prelude.{◌≡◌};
+ghost use Rattle.dualoc_cli.specs.Status.{number_of};
+
+/// How a run ended.
+#[derive(Clone, Copy, Debug, PartialEq, Eq)]
+pub enum Status {
+    /// The work is done, and all of its text is printed.
+    Done,
+    /// No plan is feasible.
+    Infeasible,
+    /// The node budget was spent before a plan was proved optimal.
+    Bracket,
+    /// The certificate shows nothing.
+    CheckNo,
+    /// The words are no command.
+    Usage,
+    /// The instance file is at fault.
+    BadInput,
+    /// A file could not be read.
+    ReadFault,
+    /// A file or the output could not be written.
+    WriteFault,
+    /// A file or a number passes its limit.
+    TooLarge,
+    /// Memory ran out.
+    NoMemory,
+}
+
+impl Status {
+    /// The number with which the program ends.
+    pub fn number(self) -> u8
+        ensures { result ≡ number_of self }
+    {
+        self as u8
+    }
+}
