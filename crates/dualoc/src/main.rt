@@ -1,0 +1,37 @@
+//! The program: the words of the command line, over the host's files, standard input and standard
+//! output. Everything is printed to standard output, and the program ends with the status's number.
+#![tactic(auto)]
+
+use dualoc_cli::{Status, run};
+use shelf_port::{RealShelf, RealSink, RealSource, write_whole};
+use std::env::Env;
+use std::io::ErrorKind;
+use std::process::ExitCode;
+use std::{env, io};
+
+fn main(rt: HostRuntime) -> ExitCode {
+    let mut out = RealSink::new(&rt);
+    let status = match words(&rt) {
+        Ok(words) => {
+            let mut shelf = RealShelf::new(&rt);
+            let mut input = RealSource::new(&rt);
+            run(rt.alloc(), &words, &mut shelf, &mut input, &mut out)
+        }
+        Err(_) => {
+            // A line that can't be written leaves nothing more to say.
+            let _ = write_whole(&mut out, b"no memory\n");
+            Status::NoMemory
+        }
+    };
+    ExitCode::from(status.number())
+}
+
+// The words behind the program's name: none where one of them is no text. It fails only where
+// memory runs out.
+fn words<R: Env + AllocGlobal>(rt: &R) -> io::Result<Vec<String>> {
+    match env::args(rt) {
+        Ok(words) => Ok(words.skip(1).collect(rt.alloc())?),
+        Err(e) if e.kind() == ErrorKind::OutOfMemory => Err(e),
+        Err(_) => Ok(Vec::new(rt.alloc())),
+    }
+}
