@@ -1,0 +1,6 @@
+//! Runs of the whole program over files, an input and an output in memory. There is nothing here but
+//! tests.
+#![tactic(auto)]
+
+#[cfg(test)]
+mod rows;

@@ -1,0 +1,287 @@
+ghost use Rattle.std.specs.Prelude.{◌<◌};
+
+use dualoc_cli::{Status, run};
+use location_terms::Claim;
+use report::plan_text;
+use shelf_port::{MemShelf, MemSink, MemSource};
+use std::alloc::Global;
+use std::test::Fail;
+
+// How many bytes one call gives or takes at most.
+const WIDTHS: [usize; 4] = [1, 2, 7, 65_536];
+
+const TWO_SITES: &str = "FILE: a\n2 3 0\n1 10 1 2 9\n2 12 8 7 1\n";
+
+const ITS_PLAN: &str =
+    "dualoc-plan 1\noptimal 22.000000\nsite 1 10.000000\nserve 1 1 1.000000\nserve 2 1 2.000000\nserve 3 1 9.000000\nend\n";
+
+// A file, the status of its short solve, and what is printed.
+const FILES: [(&str, Status, &str); 22] = [
+    (TWO_SITES, Status::Done, ITS_PLAN),
+    ("2 3 0\n1 10 1 2 9\n2 12 8 7 1\n", Status::Done, ITS_PLAN),
+    (
+        "FILE:a\n2 3 0\n1 10 1 2 9\n2 12 8 7 1\n",
+        Status::Done,
+        ITS_PLAN,
+    ),
+    (
+        "\nFILE:a x\n2 3 0\n1 10 1 2 9\n2 12 8 7 1",
+        Status::Done,
+        ITS_PLAN,
+    ),
+    (
+        "+2 3. 0\r\n1\t10 1.0000000 2 9\n02 12 8 7 1\n",
+        Status::Done,
+        ITS_PLAN,
+    ),
+    (
+        "1 1 0\n1 0 0\n",
+        Status::Done,
+        "dualoc-plan 1\noptimal 0.000000\nsite 1 0.000000\nserve 1 1 0.000000\nend\n",
+    ),
+    (
+        "1 1 0\n1 0 999999999.999999\n",
+        Status::Done,
+        "dualoc-plan 1\noptimal 999999999.999999\nsite 1 0.000000\nserve 1 1 999999999.999999\nend\n",
+    ),
+    (
+        "2 3 0\n1 2 0 0 10\n2 2 0 10 0\n",
+        Status::Done,
+        "dualoc-plan 1\noptimal 4.000000\nsite 1 2.000000\nsite 2 2.000000\nserve 1 1 0.000000\nserve 2 1 0.000000\nserve 3 2 0.000000\nend\n",
+    ),
+    (
+        "FILE: a\n2 3 0\n1 10 1.0000001 2 9\n2 12 8 7 1\n",
+        Status::BadInput,
+        "bad input TooFine line 3 word 3\n",
+    ),
+    (
+        "1 1 0\n1 0 1000000000\n",
+        Status::BadInput,
+        "bad input TooBig line 2 word 3\n",
+    ),
+    (
+        "3001 1 0\n",
+        Status::BadInput,
+        "bad input BadSize line 1 word 1\n",
+    ),
+    (
+        "3000 5000 0\n",
+        Status::BadInput,
+        "bad input BadSize line 1 word 2\n",
+    ),
+    (
+        "1 1.5 0\n",
+        Status::BadInput,
+        "bad input BadSize line 1 word 2\n",
+    ),
+    (
+        "FILE: a\n2 3 0\n1 10 1 2 9\n2 12 8",
+        Status::BadInput,
+        "bad input Ended line 4 word 4\n",
+    ),
+    (
+        "FILE: a\n2 3 0\n1 10 1 2 9\n2 12 8 7 1\n5\n",
+        Status::BadInput,
+        "bad input Trailing line 5 word 1\n",
+    ),
+    ("", Status::BadInput, "bad input Ended line 1 word 1\n"),
+    (
+        "FILE: a b\n",
+        Status::BadInput,
+        "bad input Ended line 1 word 4\n",
+    ),
+    (
+        "FILE: a\n2 3 1\n",
+        Status::BadInput,
+        "bad input NotZero line 2 word 3\n",
+    ),
+    (
+        "2 3 0\n2 10 1 2 9\n",
+        Status::BadInput,
+        "bad input BadIndex line 2 word 1\n",
+    ),
+    (
+        "2 3 0\n1 -10 1 2 9\n",
+        Status::BadInput,
+        "bad input NotANumber line 2 word 2\n",
+    ),
+    (
+        "12 1 0\n1 5 9\n2 5 9\n3 5 9\n4 5 9\n5 5 9\n6 5 9\n7 1 2\n8 5 9\n9 5 9\n10 5 9\n11 5 9\n12 5 9\n",
+        Status::Done,
+        "dualoc-plan 1\noptimal 3.000000\nsite 7 1.000000\nserve 1 7 2.000000\nend\n",
+    ),
+    (
+        "13 1 0\n1 5 9\n2 5 9\n3 5 9\n4 5 9\n5 5 9\n6 5 9\n7 1 2\n8 5 9\n9 5 9\n10 5 9\n11 5 9\n12 5 9\n13 5 9\n",
+        Status::TooLarge,
+        "too large sites\n",
+    ),
+];
+
+// Words that are no command, or name a file that isn't there.
+const WORDS: [(&[&str], Status, &str); 8] = [
+    (&[], Status::Usage, "usage\n"),
+    (&["solve"], Status::Usage, "usage\n"),
+    (&["solve", "ufl"], Status::Usage, "usage\n"),
+    (&["solve", "ufl", ""], Status::Usage, "usage\n"),
+    (&["solve", "xyz", "a"], Status::Usage, "usage\n"),
+    (&["Solve", "ufl", "a"], Status::Usage, "usage\n"),
+    (&["solve", "ufl", "a", "b"], Status::Usage, "usage\n"),
+    (&["solve", "ufl", "b"], Status::ReadFault, "read fault\n"),
+];
+
+const SHORT: [&str; 3] = ["solve", "ufl", "a"];
+
+#[derive(Drop)]
+struct Outcome {
+    status: Status,
+    text: Vec<u8>,
+}
+
+// A run over one file `a`. One call of the shelf and one of the output fail, by their numbers from 1.
+fn ran(
+    alloc: Global,
+    words: &[&str],
+    file: &[u8],
+    width: usize,
+    shelf_fails: u64,
+    out_fails: u64,
+) -> Result<Outcome, Fail>
+    requires { 0 < width }
+{
+    let mut names = Vec::new(alloc);
+    for word in words {
+        names.push(String::from_str(alloc, word)?)?;
+    }
+    let mut files = Vec::new(alloc);
+    files.push((String::from_str(alloc, "a")?, file.to_vec(alloc)?))?;
+    let mut shelf = MemShelf::new(alloc, files, vec![in alloc; shelf_fails]?).in_pieces(width);
+    let mut input = MemSource::new(Vec::new(alloc), Vec::new(alloc));
+    let mut out = MemSink::new(alloc, vec![in alloc; out_fails]?).in_pieces(width);
+    let status = run(alloc, &names, &mut shelf, &mut input, &mut out);
+    let text = out.written().to_vec(alloc)?;
+    Ok(Outcome { status, text })
+}
+
+#[test]
+fn answers_files(rt: HostRuntime) -> Result<(), Fail> {
+    for (file, status, text) in FILES {
+        for width in WIDTHS {
+            let found = ran(rt.alloc(), &SHORT, file.as_bytes(), width, 0, 0)?;
+            assert_eq!(rt; found.status, status, "status at {file}");
+            assert_eq!(rt; found.text.as_slice(), text.as_bytes(), "text at {file}");
+        }
+    }
+    Ok(())
+}
+
+#[test]
+fn answers_words(rt: HostRuntime) -> Result<(), Fail> {
+    for (words, status, text) in WORDS {
+        let found = ran(rt.alloc(), words, TWO_SITES.as_bytes(), 7, 0, 0)?;
+        assert_eq!(rt; found.status, status);
+        assert_eq!(rt; found.text.as_slice(), text.as_bytes());
+    }
+    Ok(())
+}
+
+// One past the place of the last word, found a byte at a time.
+fn end_of(text: &[u8]) -> (u32, u32) {
+    let (mut line, mut word, mut inside) = (1u32, 0u32, false);
+    let mut end = (1, 1);
+    for byte in text {
+        let blank = *byte == b' ' || *byte == b'\n';
+        if !blank && !inside {
+            word = word.saturating_add(1);
+            end = (line, word.saturating_add(1));
+        }
+        inside = !blank;
+        if *byte == b'\n' {
+            line = line.saturating_add(1);
+            word = 0;
+        }
+    }
+    end
+}
+
+#[test]
+fn names_the_end_of_each_prefix(rt: HostRuntime) -> Result<(), Fail> {
+    let alloc = rt.alloc();
+    let whole = TWO_SITES.as_bytes();
+    for len in 0..whole.len() {
+        let found = ran(alloc, &SHORT, &whole[..len], 7, 0, 0)?;
+        if len + 1 == whole.len() {
+            assert_eq!(rt; found.text.as_slice(), ITS_PLAN.as_bytes());
+        } else {
+            let (line, word) = end_of(&whole[..len]);
+            let text = match len {
+                1..=4 => format!(in alloc; "bad input NotANumber line 1 word 1\n")?,
+                _ => format!(in alloc; "bad input Ended line {line} word {word}\n")?,
+            };
+            assert_eq!(rt; found.text.as_slice(), text.as_bytes(), "at {len}");
+        }
+    }
+    Ok(())
+}
+
+#[test]
+fn survives_each_failing_call(rt: HostRuntime) -> Result<(), Fail> {
+    let alloc = rt.alloc();
+    let file = TWO_SITES.as_bytes();
+    for width in WIDTHS {
+        for call in 1..200 {
+            let found = ran(alloc, &SHORT, file, width, call, 0)?;
+            let text = if found.status == Status::Done {
+                ITS_PLAN
+            } else {
+                "read fault\n"
+            };
+            assert!(rt; found.status == Status::Done || found.status == Status::ReadFault);
+            assert_eq!(rt;
+                found.text.as_slice(),
+                text.as_bytes(),
+                "read {call} of {width}"
+            );
+
+            let found = ran(alloc, &SHORT, file, width, 0, call)?;
+            assert!(rt; found.status == Status::Done || found.status == Status::WriteFault);
+            assert!(rt;
+                ITS_PLAN.as_bytes().starts_with(&found.text),
+                "write {call} of {width}"
+            );
+            assert_eq!(rt;
+                found.status == Status::Done,
+                found.text.len() == ITS_PLAN.len()
+            );
+        }
+    }
+    Ok(())
+}
+
+#[test]
+fn prints_each_claim(rt: HostRuntime) -> Result<(), Fail> {
+    let alloc = rt.alloc();
+    let inst = ufllib_read::read(alloc, b"1 1 0\n1 0 0\n")?;
+    let claims = [
+        (Claim::Infeasible, "infeasible"),
+        (
+            Claim::Bracket {
+                low: 2_500_000,
+                high: None,
+            },
+            "bracket 2.500000 none",
+        ),
+        (
+            Claim::Bracket {
+                low: 0,
+                high: Some(4_000_000),
+            },
+            "bracket 0.000000 4.000000",
+        ),
+    ];
+    for (claim, line) in claims {
+        let expected = format!(in alloc; "dualoc-plan 1\n{line}\nend\n")?;
+        let text = plan_text(alloc, &inst, &claim, None)?;
+        assert_eq!(rt; text.as_slice(), expected.as_bytes());
+    }
+    Ok(())
+}
