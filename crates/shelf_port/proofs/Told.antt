@@ -1,12 +1,12 @@
 -- Files and bytes that are told or not, after one call and another.
-use Rattle.std.proofs.Common.{◌≡◌, ℕ, ◌+◌, ◌-◌, List, [], ◌++◌, length, take, drop, Bool, true, false, cond, refl, ap, sym, ◌∙◌, append_assoc, append-nil}
+use Rattle.std.proofs.Common.{◌≡◌, ℕ, ◌+◌, ◌-◌, List, [], ◌++◌, length, take, drop, Bool, true, false, cond, refl, ap, sym, ◌∙◌, append_assoc, append-nil, inl, inr, arith}
 use Rattle.std.proofs.lemmas.List.{take_rest, take-append-drop, drop-drop}
 use Rattle.std.proofs.lemmas.Cmp.{nat_list_cmp_total, eq_by_cmp_equiv}
 use Rattle.std.specs.Prelude.{Option, None, Some, unwrap_or}
 use Rattle.std.specs.Ordering.{nat_cmp, eq_by_cmp}
 use Rattle.std.specs.Cmp.Lexicographic.{slice_cmp}
 use Rattle.std.specs.FinMap.{get, insert, get-insert, same_map, slice_cmp-IsAntisymmetric, nat_cmp-IsAntisymmetric}
-use Rattle.shelf_port.specs.Files.{Files, Reads, with_file, with_added, bytes_of}
+use Rattle.shelf_port.specs.Files.{Files, Reads, with_file, with_added, bytes_of, LeavesPrefix, AddsPrefix}
 use Rattle.shelf_port.specs.Streams.{with_front, with_back}
 use Rattle.shelf_port.proofs.Lists.{take-add}
 
@@ -61,16 +61,42 @@ with_added-with_file None name xs ys = refl
 with_added-with_file (Some files) name xs ys =
     ap Some (ap (λ front. insert (insert files name xs) name (front ++ ys)) (bytes_of-insert files name xs) ∙ insert_twice files name xs (xs ++ ys))
 
+with_added-with_added : (told : Option Files) (name xs ys : List ℕ) → with_added (with_added told name xs) name ys ≡ with_added told name (xs ++ ys)
+with_added-with_added None name xs ys = refl
+with_added-with_added (Some files) name xs ys =
+    let had : List ℕ = bytes_of files name in
+    ap Some
+    (ap (λ front. insert (insert files name (had ++ xs)) name (front ++ ys)) (bytes_of-insert files name (had ++ xs))
+    ∙ insert_twice files name (had ++ xs) ((had ++ xs) ++ ys)
+    ∙ ap (insert files name) (append_assoc had xs ys))
+
 -- two pieces added to a file in a row are one of both
-pub put_further : (start before after : Option Files) (name bytes : List ℕ) (n m : ℕ)
-    → before ≡ with_file start name (take n bytes)
+pub added_further : (start before after : Option Files) (name bytes : List ℕ) (n m : ℕ)
+    → before ≡ with_added start name (take n bytes)
     → after ≡ with_added before name (take m (take (length bytes - n) (drop n bytes)))
-    → after ≡ with_file start name (take (n + m) bytes)
-put_further start before after name bytes n m first second =
+    → after ≡ with_added start name (take (n + m) bytes)
+added_further start before after name bytes n m first second =
     second
     ∙ ap (λ told. with_added told name (take m (take (length bytes - n) (drop n bytes)))) first
-    ∙ with_added-with_file start name (take n bytes) (take m (take (length bytes - n) (drop n bytes)))
-    ∙ ap (with_file start name) (pieces bytes n m)
+    ∙ with_added-with_added start name (take n bytes) (take m (take (length bytes - n) (drop n bytes)))
+    ∙ ap (with_added start name) (pieces bytes n m)
+
+-- bytes added to a file that is empty are what it holds
+pub put_all : (start emptied after : Option Files) (name bytes : List ℕ)
+    → emptied ≡ with_file start name []
+    → after ≡ with_added emptied name bytes
+    → after ≡ with_file start name bytes
+put_all start emptied after name bytes first second =
+    second ∙ ap (λ told. with_added told name bytes) first ∙ with_added-with_file start name [] bytes
+
+-- where some of the bytes were added to a file that is empty, it holds a prefix of them
+pub put_some : (start emptied after : Option Files) (name bytes : List ℕ)
+    → emptied ≡ with_file start name []
+    → AddsPrefix emptied after name bytes
+    → LeavesPrefix start after name bytes
+put_some start emptied after name bytes first (inl same) = inr (0, omega arith, same ∙ first)
+put_some start emptied after name bytes first (inr some) =
+    inr (some.0, some.1, put_all start emptied after name (take some.0 bytes) first some.2)
 
 -- what is left behind a place is what a read gave there, and what is left behind that
 pub given_further : (bytes file old new : List ℕ) (at n : ℕ) → bytes ≡ file → Reads bytes at n old new

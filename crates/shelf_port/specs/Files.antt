@@ -35,6 +35,10 @@ pub record Reads (file : List ℕ) (at n : ℕ) (old new : List ℕ) : Type 0 wh
 abbrev pub LeavesPrefix : Option Files → Option Files → List ℕ → List ℕ → Type 0
 LeavesPrefix old new name bytes = (new ≡ old) ⊎ ((k : ℕ) × (k ≤ length bytes) × (new ≡ with_file old name (take k bytes)))
 
+-- the files are as before, or a prefix of the bytes was added at the end of the named one and the others are as before
+abbrev pub AddsPrefix : Option Files → Option Files → List ℕ → List ℕ → Type 0
+AddsPrefix old new name bytes = (new ≡ old) ⊎ ((k : ℕ) × (k ≤ length bytes) × (new ≡ with_added old name (take k bytes)))
+
 -- a count of faults rose, or stands at the last value of its counter
 abbrev pub Rose : ℕ → ℕ → Type 0
 Rose before after = (before < after) ⊎ (2 ^ 64 - 1 ≤ after)

@@ -4,6 +4,7 @@ ghost use Rattle.shelf_port.specs.Faults.{read_fault, put_fault};
 ghost use Rattle.shelf_port.specs.declared.fault.ShelfFault.TheVariants as shelf;
 ghost use Rattle.shelf_port.specs.declared.fault.SinkFault.TheVariants as sink;
 ghost use Rattle.shelf_port.specs.declared.fault.ReadWhole.TheVariants as read;
+ghost use Rattle.shelf_port.specs.declared.fault.PutFault.TheVariants as put;
 
 use std::alloc::{AllocError, AllocFailed};
 use thiserror::Error;
@@ -106,6 +107,14 @@ impl From<ShelfFault> for ReadWhole {
             ShelfFault::Failed => ReadWhole::Failed,
             ShelfFault::NoMemory => ReadWhole::NoMemory,
         }
+    }
+}
+
+impl From<AllocError> for PutFault {
+    ghost from_gives = { λ _ e. e ≡ put.NoMemory };
+
+    fn from(_: AllocError) -> Self {
+        PutFault::NoMemory
     }
 }
 

@@ -20,7 +20,7 @@ pub use mem_shelf::MemShelf;
 pub use mem_streams::{MemSink, MemSource};
 pub use ports::{Shelf, Sink, Source};
 pub use real::{RealShelf, RealSink, RealSource};
-pub use whole::{put_whole, read_whole, write_whole};
+pub use whole::{append_whole, put_whole, read_whole, write_whole};
 
 #[cfg(test)]
 mod tests;

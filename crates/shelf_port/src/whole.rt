@@ -1,7 +1,7 @@
-// A file read whole, a file written whole, and a piece written whole to an output. Each goes on over
-// short reads and short writes.
+// A file read whole, a file written or added to whole, and a piece written whole to an output. Each
+// goes on over short reads and short writes.
 ghost use Rattle.std.specs.Prelude.{◌≡◌, ℕ, ◌<◌, ◌≤◌, length, take, IfOk, OnOk, OnErr, IsErrOf, vec_len};
-ghost use Rattle.shelf_port.specs.Files.{with_file, HasFile, LeavesPrefix, Rose, NeverFalls};
+ghost use Rattle.shelf_port.specs.Files.{with_file, with_added, HasFile, LeavesPrefix, AddsPrefix, Rose, NeverFalls};
 ghost use Rattle.shelf_port.specs.Streams.{with_back};
 
 use crate::fault::{PutFault, ReadWhole, SinkFault};
@@ -62,7 +62,25 @@ pub fn put_whole<H: Shelf>(shelf: &mut H, name: &str, bytes: &[u8]) -> Result<()
     ensures writes { NeverFalls (H.write_faults shelf.old) (H.write_faults shelf.new) }
 {
     shelf.create(name)?;
-    let mut done = 0;
+    append_whole(shelf, name, bytes)
+}
+
+/// Adds all these bytes at the end of the named file, which it makes where it is missing.
+///
+/// `Failed` comes where a write failed, `NoMemory` where there was none. After either the file is as
+/// before, or a prefix of the bytes stands at its end.
+pub fn append_whole<H: Shelf>(shelf: &mut H, name: &str, bytes: &[u8]) -> Result<(), PutFault>
+    ensures ok { OnOk result
+        (H.files shelf.new ≡ with_added (H.files shelf.old) name.now bytes.now) }
+    ensures err { OnErr result
+        (AddsPrefix (H.files shelf.old) (H.files shelf.new) name.now bytes.now) }
+    ensures failed { IsErrOf result PutFault.Failed →
+        Rose (H.write_faults shelf.old name.now) (H.write_faults shelf.new name.now) }
+
+    ensures reads { NeverFalls (H.read_faults shelf.old) (H.read_faults shelf.new) }
+    ensures writes { NeverFalls (H.write_faults shelf.old) (H.write_faults shelf.new) }
+{
+    let mut done = shelf.append(name, bytes)?;
     while done < bytes.len() {
         done += shelf.append(name, &bytes[done..])?;
     }

@@ -1,12 +1,11 @@
-use Rattle.std.proofs.Common.{arith}
-use Rattle.std.proofs.lemmas.List.{length-drop}
-use Rattle.shelf_port.proofs.Told.{put_further}
+use Rattle.shelf_port.proofs.Results.{OnOk-then, OnErr-then}
+use Rattle.shelf_port.proofs.Told.{put_all, put_some}
 use Rattle.shelf_port.proofs.whole.put_whole.Goals as goal
 
-pub loop-done-preserved : goal.loop-done-preserved
-loop-done-preserved g c = (
-  omega (arith, length-drop c.loop-done.done c.args.bytes.now, c.in_ok-done.ensures.bound),
-  put_further _ _ _ _ _ _ _ c.loop-done.invariant.1 c.in_ok-done.ensures.ok,
-  λ name. omega (arith, c.in_ok-done.ensures.reads name, c.loop-done.invariant.2 name),
-  λ name. omega (arith, c.in_ok-done.ensures.writes name, c.loop-done.invariant.3 name),
-)
+pub returns-clause-ok : goal.returns-clause-ok
+returns-clause-ok g c =
+    OnOk-then c.append_whole.result (λ all. put_all _ _ _ _ _ c.in_ok-create.ensures.ok all) c.append_whole.ensures.ok
+
+pub returns-clause-err : goal.returns-clause-err
+returns-clause-err g c =
+    OnErr-then c.append_whole.result (λ some. put_some _ _ _ _ _ c.in_ok-create.ensures.ok some) c.append_whole.ensures.err
