@@ -1,5 +1,5 @@
 -- The place behind the last word.
-use Rattle.std.proofs.Common.{◌≡◌, ℕ, ◌+◌, List, [], ◌∷◌, refl}
+use Rattle.std.proofs.Common.{◌≡◌, ◌+◌, List, [], ◌∷◌, refl}
 use Rattle.fixed_cost.specs.Words.{PlacedWord, end_of}
 use Rattle.fixed_cost.specs.Reading.{end_after}
 

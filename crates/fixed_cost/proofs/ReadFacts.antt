@@ -1,5 +1,5 @@
 -- What is known of what was read.
-use Rattle.std.proofs.Common.{◌≡◌, ℕ, zero, suc, ◌+◌, ◌*◌, ◌≤◌, Bool, true, false, not, cond, nat_le, List, [], ◌∷◌, ◌++◌, length, Result, Ok, Err, refl, sym, ap, subst, ◌∙◌, arith}
+use Rattle.std.proofs.Common.{◌≡◌, ℕ, zero, suc, ◌+◌, ◌≤◌, Bool, true, false, not, cond, nat_le, List, [], ◌∷◌, length, Result, Ok, Err, refl, ap, subst, arith}
 use Rattle.std.proofs.lemmas.Bool.Decides.{nat_tests}
 use Rattle.std.proofs.lemmas.List.Elements.{All-nil, All-cons}
 use Rattle.std.specs.Prelude.{All}
@@ -7,9 +7,8 @@ use Rattle.fixed_cost.specs.Words.{PlacedWord}
 use Rattle.fixed_cost.specs.Amount.{amount_of, is_numeral, is_in_millionths, millionths}
 use Rattle.fixed_cost.specs.declared.amount.AmountFault.{AmountFault}
 use Rattle.fixed_cost.specs.declared.amount.AmountFault.TheVariants.{NotANumber, TooFine, TooBig}
-use Rattle.fixed_cost.specs.declared.fault.FileKind.{FileKind}
 use Rattle.fixed_cost.specs.declared.fault.FileFault.{FileFault}
-use Rattle.fixed_cost.specs.Reading.{Rest, ◌>>=◌, word_at, in_word, amount_at, size_in, size_at, many_at, if_done, finished}
+use Rattle.fixed_cost.specs.Reading.{Rest, ◌>>=◌, word_at, in_word, amount_at, many_at, if_done, finished}
 
 abbrev done : {A : Type 0} → A → Result A FileFault
 done x = Ok x

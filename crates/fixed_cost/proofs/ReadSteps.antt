@@ -1,13 +1,12 @@
 -- Laws of reading words in order.
-use Rattle.std.proofs.Common.{◌≡◌, ℕ, zero, suc, ◌+◌, ◌-◌, ◌≤◌, ◌<◌, Bool, true, false, cond, List, [], ◌∷◌, ◌++◌, length, get_or, Result, Ok, Err, refl, sym, ap, subst, ◌∙◌, append_assoc, arith}
+use Rattle.std.proofs.Common.{◌≡◌, ℕ, suc, ◌+◌, Bool, List, [], ◌∷◌, ◌++◌, Result, Ok, Err, refl, sym, ap, ◌∙◌, append_assoc}
 use Rattle.std.proofs.lemmas.List.{append-nil}
-use Rattle.fixed_cost.specs.Words.{PlacedWord}
 use Rattle.fixed_cost.specs.Amount.{amount_of}
 use Rattle.fixed_cost.specs.declared.fault.FileKind.{FileKind}
 use Rattle.fixed_cost.specs.declared.fault.FileFault.{FileFault}
 use Rattle.fixed_cost.specs.declared.fault.FormFault.{FormFault}
 use Rattle.fixed_cost.specs.declared.fault.FormFault.TheVariants as form
-use Rattle.fixed_cost.specs.Reading.{Rest, ◌>>=◌, word_at, in_word, amount_at, size_in, size_at, many_at, FailsAs}
+use Rattle.fixed_cost.specs.Reading.{Rest, ◌>>=◌, word_at, in_word, size_at, many_at, FailsAs}
 
 -- steps that go on alike give the same
 bind-same : {A B : Type 0} (read : Result A FileFault) (f g : A → Result B FileFault) → ((x : A) → f x ≡ g x) → (read >>= f) ≡ (read >>= g)

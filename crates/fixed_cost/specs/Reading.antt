@@ -1,5 +1,5 @@
 -- Reading the words of a text in order, with the first fault that is met. Forms of files are defined by these.
-use Rattle.std.specs.Prelude.{◌≡◌, ◌==◌, ℕ, zero, suc, ◌+◌, ◌/◌, ◌%◌, Bool, ◌&&◌, List, [], ◌∷◌, Option, Some, None, Result, Ok, Err, nat_eq, nat_le, if◌then◌else◌}
+use Rattle.std.specs.Prelude.{◌≡◌, ◌==◌, ℕ, zero, suc, ◌+◌, ◌/◌, ◌%◌, Bool, ◌&&◌, List, [], ◌∷◌, Result, Ok, Err, nat_eq, nat_le, if◌then◌else◌}
 use Rattle.std.specs.List.{starts_with}
 use Rattle.fixed_cost.specs.Amount.{amount_of}
 use Rattle.fixed_cost.specs.Words.{PlacedWord, end_of}

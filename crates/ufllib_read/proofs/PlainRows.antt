@@ -1,11 +1,10 @@
 -- The instance of rows that were read is plain.
-use Rattle.std.proofs.Common.{◌≡◌, ℕ, ◌+◌, ◌<◌, ◌≤◌, List, [], map, length, All, None, Some, Option, IsSome, slice_index, slice_index_or, get_or, refl, sym, ap, subst, ◌∙◌, arith}
+use Rattle.std.proofs.Common.{◌≡◌, ℕ, ◌+◌, ◌<◌, List, [], map, length, All, None, Option, IsSome, slice_index, slice_index_or, get_or, refl, sym, ap, subst, ◌∙◌, arith}
 use Rattle.std.specs.FinMap.{get}
-use Rattle.std.specs.List.Sorted.{IsStrictlyIncreasing}
 use Rattle.std.proofs.lemmas.List.{length-map, get_or-map}
 use Rattle.std.proofs.lemmas.List.Elements.{All-map}
 use Rattle.location_terms.specs.declared.status.SiteStatus.TheVariants.{Free}
-use Rattle.location_terms.specs.Instance.{Instance, lanes_of, lane}
+use Rattle.location_terms.specs.Instance.{lanes_of, lane}
 use Rattle.location_terms.specs.Plain.{IsPlain, IsOpenToAll}
 use Rattle.location_terms.proofs.Table.{IsTable, get-lanes_of}
 use Rattle.instance_store.specs.declared.rows.CustRow.{CustRow}
