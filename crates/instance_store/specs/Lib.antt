@@ -2,3 +2,4 @@ pub mod Small
 pub mod Parts
 pub mod Places
 pub mod Stored
+pub mod Statuses

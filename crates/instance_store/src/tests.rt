@@ -44,8 +44,11 @@ fn has_site(inst: &Instance, i: usize, id: u32, fixed: u64, cap: Option<u64>) ->
         && inst.site_id(i).number() == id
         && inst.fixed(i) == fixed
         && inst.cap(i) == cap
-        && inst.status(i) == SiteStatus::Free
         && inst.site_at(SiteId::new(id)) == Some(i)
+}
+
+fn has_statuses(inst: &Instance, first: SiteStatus, second: SiteStatus) -> bool {
+    inst.sites() == 2 && inst.status(0) == first && inst.status(1) == second
 }
 
 fn has_customer(inst: &Instance, j: usize, id: u32, demand: u64) -> bool {
@@ -73,6 +76,7 @@ fn looks_up_each_place_and_id(rt: HostRuntime) -> Result<(), Fail> {
 
     assert!(rt; has_site(&inst, 0, 3, 10_000_000, None));
     assert!(rt; has_site(&inst, 1, 7, 12_000_000, Some(5_000_000)));
+    assert!(rt; has_statuses(&inst, SiteStatus::Free, SiteStatus::Free));
     assert!(rt; has_customer(&inst, 0, 2, 1_500_000));
     assert!(rt; has_customer(&inst, 1, 4, 2_000_000));
     assert!(rt; has_customer(&inst, 2, 9, 2_500_000));
@@ -91,5 +95,30 @@ fn looks_up_each_place_and_id(rt: HostRuntime) -> Result<(), Fail> {
     for id in [0, 1, 3, 7, 10, 11] {
         assert!(rt; inst.cust_at(CustId::new(id)) == None);
     }
+    Ok(())
+}
+
+// Whether the instance is the example but for the statuses of its sites.
+fn is_example_but_settled(inst: &Instance) -> bool {
+    inst.sites() == 2
+        && inst.custs() == 3
+        && inst.count() == (1, 2)
+        && inst.next_ids() == (8, 11)
+        && has_site(inst, 0, 3, 10_000_000, None)
+        && has_site(inst, 1, 7, 12_000_000, Some(5_000_000))
+        && has_customer(inst, 0, 2, 1_500_000)
+        && has_customer(inst, 1, 4, 2_000_000)
+        && has_customer(inst, 2, 9, 2_500_000)
+        && has_lanes(inst, 0, [Some(1_000_000), Some(2_000_000), None])
+        && has_lanes(inst, 1, [Some(8_000_000), Some(7_000_000), Some(1_000_000)])
+}
+
+#[test]
+fn settles_a_site(rt: HostRuntime) -> Result<(), Fail> {
+    let mut inst = example(rt.alloc())?;
+    assert!(rt; 1 < inst.sites());
+    inst.set_status(1, SiteStatus::MustClose);
+    assert!(rt; has_statuses(&inst, SiteStatus::Free, SiteStatus::MustClose));
+    assert!(rt; is_example_but_settled(&inst));
     Ok(())
 }

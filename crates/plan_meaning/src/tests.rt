@@ -58,6 +58,15 @@ fn pair(
     Ok(Instance::from_parts(alloc, lo, hi, 3, 4, custs, sites)?)
 }
 
+// The same, of which one or two sites are to be open, without capacities; site 2 has this status.
+fn settled_pair(alloc: Global, status: SiteStatus) -> Result<Instance, Fail> {
+    let mut inst = pair(alloc, 1, 2, None, Some(9_000_000))?;
+    if inst.sites() == 2 {
+        inst.set_status(1, status);
+    }
+    Ok(inst)
+}
+
 // The plan that opens these sites and serves each customer from the site beside it.
 fn plan(
     alloc: Global,
@@ -295,5 +304,32 @@ fn counts_the_sites(rt: HostRuntime) -> Result<(), Fail> {
     assert!(rt; is_count_refused(alloc, 2, 2, &[2], &[2, 2, 2])?);
     assert!(rt; is_count_refused(alloc, 1, 1, &[1, 2], &[2, 2, 2])?);
     assert_eq!(rt; PlanFault::SiteCount.name(), "SiteCount");
+    Ok(())
+}
+
+// Whether the judge says this of the plan that opens site 1 alone, and that of the one with both.
+fn judges_both(
+    alloc: Global,
+    inst: &Instance,
+    one: Result<u64, PlanFault>,
+    both: Result<u64, PlanFault>,
+) -> bool {
+    judges(alloc, inst, &[1], &[1, 2, 3], &[1, 1, 1], one)
+        && judges(alloc, inst, &[1, 2], &[1, 2, 3], &[1, 1, 2], both)
+}
+
+#[test]
+fn refuses_an_open_site_that_must_close(rt: HostRuntime) -> Result<(), Fail> {
+    let alloc = rt.alloc();
+    let inst = settled_pair(alloc, SiteStatus::MustClose)?;
+    assert!(rt; judges_both(alloc, &inst, Ok(22_000_000), Err(PlanFault::StatusBroken)));
+    Ok(())
+}
+
+#[test]
+fn refuses_a_closed_site_that_must_open(rt: HostRuntime) -> Result<(), Fail> {
+    let alloc = rt.alloc();
+    let inst = settled_pair(alloc, SiteStatus::MustOpen)?;
+    assert!(rt; judges_both(alloc, &inst, Err(PlanFault::StatusBroken), Ok(26_000_000)));
     Ok(())
 }
