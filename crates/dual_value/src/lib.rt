@@ -17,3 +17,6 @@ pub use fit::{RangeFault, fits, tame};
 pub use location_terms::Decision;
 pub use path::Path;
 pub use settled::{SiteState, allowed, is_torn, site_state};
+
+#[cfg(test)]
+mod tests;

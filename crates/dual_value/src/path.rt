@@ -52,6 +52,18 @@ impl Path {
         Ok(path)
     }
 
+    /// The same path once more, in memory of its own. It fails only where memory runs out.
+    pub fn copied(&self) -> Result<Path, NoMemory>
+        ensures { IfOk result (λ path. path ≡ self.now) }
+    {
+        let mut steps = Vec::with_capacity(*self.steps.allocator(), self.steps.len())?;
+        steps.extend_from_slice(&self.steps)?;
+        Ok(Path {
+            steps,
+            lane_steps: self.lane_steps,
+        })
+    }
+
     /// Adds a step at the end. It fails only where memory runs out.
     pub fn push(&mut self, step: Decision) -> Result<(), NoMemory>
         ensures ok { OnOk result (self.new ≡ self.old ++ step ∷ []) }
