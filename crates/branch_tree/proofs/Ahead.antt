@@ -12,12 +12,12 @@ use Rattle.branch_tree.specs.Preorder.{flat, tree_of, IsStored}
 use Rattle.branch_tree.specs.Walk.{second_child, one_step, turned_within, turned, next, leaf_at, passed, leaves_ahead}
 use Rattle.branch_tree.proofs.Stored.{seen}
 
-turned_first : (d e : Decision) (path : Path) → second_child d ≡ Some e → turned (path ++ d ∷ []) ≡ Some (path ++ e ∷ [])
+pub turned_first : (d e : Decision) (path : Path) → second_child d ≡ Some e → turned (path ++ d ∷ []) ≡ Some (path ++ e ∷ [])
 unfolding turned
 turned_first d e [] h = ap one_step h
 turned_first d e (x ∷ xs) h = ap (turned_within x) (turned_first d e xs h)
 
-turned_second : (d : Decision) (path : Path) → second_child d ≡ None → turned (path ++ d ∷ []) ≡ turned path
+pub turned_second : (d : Decision) (path : Path) → second_child d ≡ None → turned (path ++ d ∷ []) ≡ turned path
 unfolding turned
 turned_second d [] h = ap one_step h
 turned_second d (x ∷ xs) h = ap (turned_within x) (turned_second d xs h)
@@ -29,6 +29,18 @@ next_first d e path h = ap (λ o. unwrap_or o []) (turned_first d e path h)
 pub next_second : (d : Decision) (path : Path) → second_child d ≡ None → next (path ++ d ∷ []) ≡ next path
 unfolding next
 next_second d path h = ap (λ o. unwrap_or o []) (turned_second d path h)
+
+pub next_some : (path after : Path) → turned path ≡ Some after → after ≡ next path
+unfolding next
+next_some path after h = sym (ap (λ o. unwrap_or o []) h)
+
+pub next_none : (path : Path) → turned path ≡ None → [] ≡ next path
+unfolding next
+next_none path h = sym (ap (λ o. unwrap_or o []) h)
+
+pub turned_root : turned [] ≡ None
+unfolding turned
+turned_root = refl
 
 pub next_root : next [] ≡ []
 unfolding next turned

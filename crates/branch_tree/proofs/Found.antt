@@ -59,10 +59,11 @@ ended (SiteSplit s) h = cc
 ended (LaneSplit s c) h = cc
 
 module _ {S C : List ℕ} {n : List Entry} (stored : IsStored S C n) (t : Tree) (view_is : seen S C n ≡ t) where
-  pub stored_path : (k p : ℕ) (m : List Entry) → m ≡ n → p < length m → ((e : Entry) → is_end (get_or m p e) ≡ true) → count_by is_end (take p m) ≡ k → slice_get (map (λ l. l.0) (leaves_of t)) k ≡ Some (fold passed [] (take p m))
-  stored_path k p m same within leaf before =
+  -- what a function of its path says of leaf k
+  pub stored_by : {X : Type 0} (f : Path → X) (k p : ℕ) (m : List Entry) → m ≡ n → p < length m → ((e : Entry) → is_end (get_or m p e) ≡ true) → count_by is_end (take p m) ≡ k → slice_get (map (λ l. f l.0) (leaves_of t)) k ≡ Some (f (fold passed [] (take p m)))
+  stored_by f k p m same within leaf before =
       let here : p < length n = omega (arith, ap length same) in
       let found : (d : Duals) × (get_or n p (LaneSplit 0 0) ≡ End d) = ended (get_or n p (LaneSplit 0 0)) (subst (λ xs. is_end (get_or xs p (LaneSplit 0 0)) ≡ true) same (leaf (LaneSplit 0 0))) in
-      slice_get-map (λ l. l.0) (leaves_of t) k
-      ∙ ap (option_map (λ l. l.0)) (stored_leaf stored t view_is k p found.0 (slice_get-get_or n p (LaneSplit 0 0) here ∙ ap Some found.1) (subst (λ xs. count_by is_end (take p xs) ≡ k) same before))
-      ∙ ap (λ xs. Some (fold passed [] (take p xs))) (sym same)
+      slice_get-map (λ l. f l.0) (leaves_of t) k
+      ∙ ap (option_map (λ l. f l.0)) (stored_leaf stored t view_is k p found.0 (slice_get-get_or n p (LaneSplit 0 0) here ∙ ap Some found.1) (subst (λ xs. count_by is_end (take p xs) ≡ k) same before))
+      ∙ ap (λ xs. Some (f (fold passed [] (take p xs)))) (sym same)

@@ -4,3 +4,5 @@ pub mod Ahead
 pub mod Loops
 pub mod Found
 pub mod Spliced
+pub mod Above
+pub mod Whole

@@ -14,14 +14,14 @@ use Rattle.location_terms.proofs.LowEnds.{shows_low_end, shows_impossible}
 use Rattle.branch_tree.specs.declared.entry.Entry.{Entry}
 use Rattle.branch_tree.specs.declared.entry.Entry.TheVariants.{End, SiteSplit, LaneSplit}
 use Rattle.branch_tree.specs.Preorder.{flat, IsSound, IsStored}
-use Rattle.branch_tree.specs.Walk.{next, leaf_at, passed, leaves_ahead, EndFits, lowered, lowered_all}
+use Rattle.branch_tree.specs.Walk.{leaf_at, passed, leaves_ahead, EndFits, lowered, lowered_all}
 use Rattle.branch_tree.proofs.Flat.{all_parts}
 use Rattle.branch_tree.proofs.Stored.{seen}
-use Rattle.branch_tree.proofs.Ahead.{next_root, ahead_at}
+use Rattle.branch_tree.proofs.Ahead.{ahead_at}
 
-pub next_none : (path : Path) → length path ≡ 0 → path ≡ next path
-next_none [] h = sym next_root
-next_none (d ∷ ds) h = absurd (omega arith)
+pub no_step : (path : Path) → length path ≡ 0 → path ≡ []
+no_step [] h = refl
+no_step (d ∷ ds) h = absurd (omega arith)
 
 pub one_leaf : (P : Path × Duals → Type 0) (path : Path) (e : Entry) (d : Duals) (r : Bool) → e ≡ End d → (IsTrue r ↔ P (path, d)) → IsTrue r ↔ All P (leaf_at path e)
 one_leaf P path e d r is h =

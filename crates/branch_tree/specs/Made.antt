@@ -1,8 +1,10 @@
 -- The trees that the constructors make, and a tree's nodes as they are shown.
-use Rattle.std.specs.Prelude.{ℕ, List, [], ◌∷◌, ◌++◌, length, replicate, pos}
+use Rattle.std.specs.Prelude.{ℕ, List, [], ◌∷◌, ◌++◌, length, replicate, pos, Option, None, Some, slice_get}
+use Rattle.std.specs.Option.{option_and_then}
 use Rattle.location_terms.specs.Instance.{Instance, site_ids, customer_ids}
 use Rattle.location_terms.specs.Bound.{Duals}
 use Rattle.location_terms.specs.Tree.{Node, Leaf, OnSite, OnLane, Tree}
+use Rattle.branch_tree.specs.Preorder.{flat}
 use Rattle.branch_tree.specs.declared.entry.Entry.{Entry}
 use Rattle.branch_tree.specs.declared.entry.Entry.TheVariants.{End, SiteSplit, LaneSplit}
 use Rattle.branch_tree.specs.declared.node.Node.{Node as Shown}
@@ -33,3 +35,13 @@ abbrev pub entry_shown : Entry → Shown
 entry_shown (End d) = shown.Leaf
 entry_shown (SiteSplit s) = shown.Site s
 entry_shown (LaneSplit s c) = shown.Lane s c
+
+-- the duals of an entry, where it is a leaf
+abbrev pub duals_of : Entry → Option Duals
+duals_of (End d) = Some d
+duals_of (SiteSplit s) = None
+duals_of (LaneSplit s c) = None
+
+-- the duals of the node at a place in preorder, where a leaf is there
+abbrev pub duals_at : Node → ℕ → Option Duals
+duals_at t at = option_and_then duals_of (slice_get (flat t) at)

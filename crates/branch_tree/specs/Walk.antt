@@ -40,6 +40,26 @@ passed path (End d) = next path
 passed path (SiteSplit s) = path ++ Closed s ∷ []
 passed path (LaneSplit s c) = path ++ No s c ∷ []
 
+-- the path to the node after this one, and none where it ends the whole tree
+abbrev pub stepped : Path → Entry → Option Path
+stepped path (End d) = turned path
+stepped path (SiteSplit s) = Some (path ++ Closed s ∷ [])
+stepped path (LaneSplit s c) = Some (path ++ No s c ∷ [])
+
+-- the path to the node after these, where the walk starts at this one, and none once the tree is whole
+abbrev pub walked : Option Path → List Entry → Option Path
+walked None [] = None
+walked None (e ∷ es) = None
+walked (Some path) [] = Some path
+walked (Some path) (e ∷ es) = walked (stepped path e) es
+
+-- a walk over the nodes, from this path, ends the whole tree with the last of them and not before
+abbrev pub IsWhole : Option Path → List Entry → Type 0
+IsWhole None [] = Unit {0}
+IsWhole None (e ∷ es) = ⊥
+IsWhole (Some path) [] = ⊥
+IsWhole (Some path) (e ∷ es) = IsWhole (stepped path e) es
+
 abbrev pub leaf_at : Path → Entry → List (Path × Duals)
 leaf_at path (End d) = (path, d) ∷ []
 leaf_at path (SiteSplit s) = []

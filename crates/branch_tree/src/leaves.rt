@@ -1,14 +1,16 @@
 //! The leaves by their order.
-ghost use Rattle.std.specs.Prelude.{◌≡◌, ◌+◌, ◌<◌, [], IfOk, OnErr, OnOk, count_by, fold, length, slice_index_or, take, true};
+ghost use Rattle.std.specs.Prelude.{◌≡◌, ◌+◌, ◌^◌, ◌<◌, [], IfOk, OnErr, OnOk, Some, count_by, fold, length, slice_get, slice_index_or, take, true};
 ghost use Rattle.std.specs.List.{splice};
 ghost use Rattle.branch_tree.specs.declared.entry.Entry.{Entry as Stored};
 ghost use Rattle.branch_tree.specs.Leaf.{is_end};
+ghost use Rattle.branch_tree.specs.Above.{chosen, done_before, step_below};
 ghost use Rattle.branch_tree.specs.Walk.{passed};
 
 use crate::entry::Entry;
 use crate::walk::pass;
 use dual_value::Path;
 use instance_store::NoMemory;
+use location_terms::Decision;
 use std::alloc::Global;
 
 // The place of leaf `k` in the list.
@@ -41,6 +43,48 @@ pub(crate) fn path_after(alloc: Global, nodes: &[Entry]) -> Result<Path, NoMemor
     Ok(path)
 }
 
+// How many steps the path to the node that follows these has.
+pub(crate) fn depth_after(nodes: &[Entry]) -> usize
+    ensures { result ≡ length (fold passed [] nodes.now) }
+{
+    let mut depth = 0;
+    let mut done = 0;
+    let mut place = nodes.len();
+    while place > 0 {
+        place -= 1;
+        let entry = &nodes[place];
+        let step = step_below(entry, done);
+        done = done_before(entry, done);
+        if step.is_some() {
+            depth += 1;
+        }
+    }
+    depth
+}
+
+// A step, counted from the root, of the path to the node that follows these.
+pub(crate) fn step_after(nodes: &[Entry], at: usize) -> Decision
+    requires { at < length (fold passed [] nodes.now) }
+    ensures { slice_get (fold passed [] nodes.now) at ≡ Some result }
+{
+    let mut depth = depth_after(nodes);
+    let mut done = 0;
+    let mut place = nodes.len();
+    while place > 0 {
+        place -= 1;
+        let entry = &nodes[place];
+        let step = step_below(entry, done);
+        done = done_before(entry, done);
+        if let Some(step) = step {
+            depth -= 1;
+            if depth == at {
+                return step;
+            }
+        }
+    }
+    unreachable!()
+}
+
 // Puts a list in the place of one entry.
 pub(crate) fn replace_at(
     nodes: &mut Vec<Entry>,
@@ -61,5 +105,40 @@ fn is_end(entry: &Entry) -> bool
     match entry {
         Entry::End(_) => true,
         _ => false,
+    }
+}
+
+// The step from an entry down to a node, with so many trees done between them.
+fn step_below(entry: &Entry, done: usize) -> Option<Decision>
+    ensures { result ≡ step_below entry.now done }
+{
+    match entry {
+        Entry::End(_) => None,
+        Entry::SiteSplit(site) => chosen(Decision::Closed(*site), Decision::Opened(*site), done),
+        Entry::LaneSplit(site, cust) => chosen(
+            Decision::No(*site, *cust),
+            Decision::Yes(*site, *cust),
+            done,
+        ),
+    }
+}
+
+fn chosen(first: Decision, second: Decision, done: usize) -> Option<Decision>
+    ensures { result ≡ chosen first second done }
+{
+    match done {
+        0 => Some(first),
+        1 => Some(second),
+        _ => None,
+    }
+}
+
+fn done_before(entry: &Entry, done: usize) -> usize
+    requires { done + 1 < 2 ^ 64 }
+    ensures { result ≡ done_before entry.now done }
+{
+    match entry {
+        Entry::End(_) => done + 1,
+        _ => done.saturating_sub(1),
     }
 }

@@ -4,12 +4,18 @@
 #![tactic(auto)]
 
 mod bounds;
+mod builder;
 mod entry;
 mod leaves;
 mod node;
 mod tree;
 mod walk;
 
+pub use builder::Builder;
 pub use dual_value::{Decision, Duals, Path};
 pub use node::Node;
 pub use tree::Tree;
+pub use walk::pass_leaf;
+
+#[cfg(test)]
+mod tests;

@@ -6,13 +6,15 @@ ghost use Rattle.location_terms.specs.Bound.{bound_of};
 ghost use Rattle.location_terms.specs.Fit.{DualsFit, BoundCloses};
 ghost use Rattle.location_terms.specs.Tree.{IsTree, StandsOn, AllClose, leaves_of, low_of, nodes_of};
 ghost use Rattle.branch_tree.specs.Leaf.{replaced_in};
-ghost use Rattle.branch_tree.specs.Made.{leaf_of, zeros_of, split_on_site, split_on_lane, nodes_shown, entry_shown};
+ghost use Rattle.branch_tree.specs.Preorder.{IsStored, tree_from};
+ghost use Rattle.std.specs.Option.{option_copied};
+ghost use Rattle.branch_tree.specs.Made.{leaf_of, zeros_of, split_on_site, split_on_lane, nodes_shown, entry_shown, duals_at};
 
 use crate::Node;
 use crate::entry::Entry;
-use crate::leaves::{leaf_place, path_after, replace_at};
+use crate::leaves::{depth_after, leaf_place, path_after, replace_at, step_after};
 use crate::walk::{all_close, least_low};
-use dual_value::{Duals, Path};
+use dual_value::{Decision, Duals, Path};
 use instance_store::{Instance, NoMemory};
 use location_terms::{CustId, SiteId};
 use std::alloc::Global;
@@ -100,6 +102,18 @@ impl Tree {
         })
     }
 
+    // The tree that has these nodes in preorder.
+    pub(crate) fn of_nodes(sites: Vec<SiteId>, customers: Vec<CustId>, nodes: Vec<Entry>) -> Tree
+        requires { IsStored sites.items customers.items nodes.items }
+        ensures { result ≡ tree_from (sites.items, (customers.items, nodes.items)) }
+    {
+        Tree {
+            sites,
+            customers,
+            nodes,
+        }
+    }
+
     /// How many nodes the tree has, leaves and splits.
     pub fn nodes(&self) -> u32
         ensures count { result ≡ nodes_of self.now }
@@ -138,6 +152,26 @@ impl Tree {
         Ok(path)
     }
 
+    /// How many steps the path to leaf `k` has, counted in preorder from 0.
+    pub fn leaf_depth(&self, k: usize) -> usize
+        requires { k < length (leaves_of self.now) }
+        ensures { slice_get (map (λ l. length l.0) (leaves_of self.now)) k ≡ Some result }
+    {
+        let place = leaf_place(&self.nodes, k);
+        depth_after(&self.nodes[..place])
+    }
+
+    /// The step at place `at`, counted from the root, of the path to leaf `k`, counted in preorder
+    /// from 0.
+    pub fn leaf_step(&self, k: usize, at: usize) -> Decision
+        requires leaf { k < length (leaves_of self.now) }
+        requires step { IfSome (slice_get (map (λ l. length l.0) (leaves_of self.now)) k) (λ depth. at < depth) }
+        ensures { slice_get (map (λ l. slice_get l.0 at) (leaves_of self.now)) k ≡ Some (Some result) }
+    {
+        let place = leaf_place(&self.nodes, k);
+        step_after(&self.nodes[..place], at)
+    }
+
     /// Puts the part's root in the place of leaf `k`, counted in preorder from 0. It fails only where
     /// memory runs out, and then changes nothing.
     pub fn replace_leaf(&mut self, k: usize, part: Tree) -> Result<(), NoMemory>
@@ -159,6 +193,16 @@ impl Tree {
         ensures { slice_get (nodes_shown self.now.root) at ≡ Some result }
     {
         shown(&self.nodes[at as usize])
+    }
+
+    /// The duals of the node at this place in preorder, counted from 0, where a leaf is there.
+    pub fn duals(&self, at: u32) -> Option<&Duals>
+        ensures { option_copied result ≡ duals_at self.now.root at }
+    {
+        match self.nodes.get(at as usize) {
+            Some(Entry::End(duals)) => Some(duals),
+            _ => None,
+        }
     }
 
     /// Whether each leaf closes its box against the target, a cost in millionths, or without one. Where
@@ -233,7 +277,7 @@ fn joined(split: Entry, first: Vec<Entry>, second: Vec<Entry>) -> Result<Vec<Ent
     Ok(nodes)
 }
 
-fn site_list(alloc: Global, inst: &Instance) -> Result<Vec<SiteId>, NoMemory>
+pub(crate) fn site_list(alloc: Global, inst: &Instance) -> Result<Vec<SiteId>, NoMemory>
     ensures { IfOk result (λ v. v.items ≡ site_ids inst.now) }
 {
     let mut ids = Vec::with_capacity(alloc, inst.sites())?;
@@ -243,7 +287,7 @@ fn site_list(alloc: Global, inst: &Instance) -> Result<Vec<SiteId>, NoMemory>
     Ok(ids)
 }
 
-fn customer_list(alloc: Global, inst: &Instance) -> Result<Vec<CustId>, NoMemory>
+pub(crate) fn customer_list(alloc: Global, inst: &Instance) -> Result<Vec<CustId>, NoMemory>
     ensures { IfOk result (λ v. v.items ≡ customer_ids inst.now) }
 {
     let mut ids = Vec::with_capacity(alloc, inst.custs())?;

@@ -1,11 +1,11 @@
 //! One walk over the nodes of a tree in preorder. The path to the next node is all that it keeps: its
 //! last step says whether the split above has its second child still to come.
-ghost use Rattle.std.specs.Prelude.{◌≡◌, ◌≤◌, ◌↔◌, [], All, IfOk, OnOk, IsTrue, length};
+ghost use Rattle.std.specs.Prelude.{◌≡◌, ◌≤◌, ◌↔◌, [], All, IfOk, None, OnOk, Some, IsTrue, if◌then◌else◌, length};
 ghost use Rattle.location_terms.specs.Instance.{site_ids, customer_ids};
 ghost use Rattle.location_terms.specs.Fit.{Closes, DualsFit};
 ghost use Rattle.location_terms.specs.declared.limits.TheConstants.{MAX_COST};
 ghost use Rattle.branch_tree.specs.Preorder.{IsSound};
-ghost use Rattle.branch_tree.specs.Walk.{second_child, next, passed, leaf_at, leaves_ahead, EndFits, lowered_all};
+ghost use Rattle.branch_tree.specs.Walk.{second_child, turned, next, passed, leaf_at, leaves_ahead, EndFits, lowered_all};
 
 use crate::bounds::{closes_box, lowered};
 use crate::entry::Entry;
@@ -79,17 +79,28 @@ pub(crate) fn pass(path: &mut Path, entry: &Entry) -> Result<(), NoMemory>
     }
 }
 
-// From a tree that is done to the second child of the last split that has it still to come.
 fn turn(path: &mut Path) -> Result<(), NoMemory>
     ensures { OnOk result (path.new ≡ next path.old) }
+{
+    let _more = pass_leaf(path)?;
+    Ok(())
+}
+
+/// From the path to a leaf to the path to the node after it in preorder: the second child of the
+/// last split whose first child the path is in. The answer says whether there is one: where there
+/// is none the leaf ends the whole tree, and the path is the root's. It fails only where memory runs
+/// out, and the path is then of no use.
+pub fn pass_leaf(path: &mut Path) -> Result<bool, NoMemory>
+    ensures exact { IfOk result (λ more. turned path.old ≡ (if more then Some path.new else None)) }
+    ensures next { OnOk result (path.new ≡ next path.old) }
 {
     while path.steps() > 0 {
         if let Some(step) = second_child(path.pop()) {
             path.push(step)?;
-            return Ok(());
+            return Ok(true);
         }
     }
-    Ok(())
+    Ok(false)
 }
 
 fn second_child(step: Decision) -> Option<Decision>

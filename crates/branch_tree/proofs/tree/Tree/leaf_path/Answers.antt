@@ -2,7 +2,7 @@ use Rattle.std.proofs.Common.{◌<◌, ap, sym, subst, ◌∙◌, take, Some, []
 use Rattle.std.specs.Prelude.{count_by, fold}
 use Rattle.branch_tree.specs.Leaf.{is_end}
 use Rattle.branch_tree.specs.Walk.{passed}
-use Rattle.branch_tree.proofs.Found.{stored_count, stored_path}
+use Rattle.branch_tree.proofs.Found.{stored_count, stored_by}
 use Rattle.branch_tree.proofs.tree.Tree.leaf_path.Goals as goal
 
 pub leaf_place-place-requires : goal.leaf_place-place-requires
@@ -12,6 +12,6 @@ leaf_place-place-requires c =
 
 pub returns : goal.returns
 returns c =
-    stored_path c.self.invariant c.args.self.now c.self.view_is c.args.k c.leaf_place-place.result c.deref.result.now c.deref.ensures.value c.leaf_place-place.ensures.within c.leaf_place-place.ensures.leaf c.leaf_place-place.ensures.before
+    stored_by c.self.invariant c.args.self.now c.self.view_is (λ path. path) c.args.k c.leaf_place-place.result c.deref.result.now c.deref.ensures.value c.leaf_place-place.ensures.within c.leaf_place-place.ensures.leaf c.leaf_place-place.ensures.before
     ∙ ap (λ xs. Some (fold passed [] (take c.leaf_place-place.result xs))) (c.deref.ensures.value ∙ sym c.deref-2.ensures.value)
     ∙ ap Some (sym c.in_ok-path.ensures)

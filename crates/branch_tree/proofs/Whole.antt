@@ -1,0 +1,158 @@
+-- Nodes whose walk ends with the last of them are those of one whole tree, and the other way round.
+use Rattle.std.proofs.Common.{◌≡◌, ℕ, ◌+◌, suc, refl, sym, ap, subst, ◌∙◌, arith, List, [], ◌∷◌, ◌++◌, length, Option, Some, None}
+use Rattle.std.proofs.lemmas.List.{append_assoc, append-nil}
+use Rattle.location_terms.specs.declared.decision.Decision.{Decision}
+use Rattle.location_terms.specs.declared.decision.Decision.TheVariants.{Opened, Closed, Yes, No}
+use Rattle.location_terms.specs.Box.{Path}
+use Rattle.location_terms.specs.Tree.{Node, Leaf, OnSite, OnLane}
+use Rattle.location_terms.specs.Bound.{Duals}
+use Rattle.branch_tree.specs.declared.entry.Entry.{Entry}
+use Rattle.branch_tree.specs.declared.entry.Entry.TheVariants.{End, SiteSplit, LaneSplit}
+use Rattle.branch_tree.specs.Preorder.{flat, forest, joined_on_site, joined_on_lane, first_tree, tree_of, IsStored}
+use Rattle.branch_tree.specs.Begun.{AreSound}
+use Rattle.branch_tree.specs.Walk.{second_child, turned_within, turned, stepped, walked, IsWhole}
+use Rattle.branch_tree.proofs.Ahead.{turned_first, turned_second, turned_root}
+
+-- a walk over a tree comes to what follows the tree
+walked_children : (first second : Decision) (path : Path) (a b : Node) (es : List Entry) → second_child first ≡ Some second → second_child second ≡ None
+    → ((p : Path) (xs : List Entry) → walked (Some p) (flat a ++ xs) ≡ walked (turned p) xs)
+    → ((p : Path) (xs : List Entry) → walked (Some p) (flat b ++ xs) ≡ walked (turned p) xs)
+    → walked (Some (path ++ first ∷ [])) ((flat a ++ flat b) ++ es) ≡ walked (turned path) es
+walked_children first second path a b es h k on_a on_b =
+    ap (walked (Some (path ++ first ∷ []))) (append_assoc (flat a) (flat b) es)
+    ∙ on_a (path ++ first ∷ []) (flat b ++ es)
+    ∙ ap (λ o. walked o (flat b ++ es)) (turned_first first second path h)
+    ∙ on_b (path ++ second ∷ []) es
+    ∙ ap (λ o. walked o es) (turned_second second path k)
+
+pub walked-flat : (t : Node) (path : Path) (es : List Entry) → walked (Some path) (flat t ++ es) ≡ walked (turned path) es
+walked-flat (Leaf d) path es = refl
+walked-flat (OnSite s a b) path es = walked_children (Closed s) (Opened s) path a b es refl refl (walked-flat a) (walked-flat b)
+walked-flat (OnLane s c a b) path es = walked_children (No s c) (Yes s c) path a b es refl refl (walked-flat a) (walked-flat b)
+
+-- a tree, and then what makes the rest whole
+whole_children : (first second : Decision) (path : Path) (a b : Node) (es : List Entry) → second_child first ≡ Some second → second_child second ≡ None
+    → ((p : Path) (xs : List Entry) → IsWhole (turned p) xs → IsWhole (Some p) (flat a ++ xs))
+    → ((p : Path) (xs : List Entry) → IsWhole (turned p) xs → IsWhole (Some p) (flat b ++ xs))
+    → IsWhole (turned path) es → IsWhole (Some (path ++ first ∷ [])) ((flat a ++ flat b) ++ es)
+whole_children first second path a b es h k on_a on_b rest =
+    subst (IsWhole (Some (path ++ first ∷ []))) (sym (append_assoc (flat a) (flat b) es))
+    (on_a (path ++ first ∷ []) (flat b ++ es)
+    (subst (λ o. IsWhole o (flat b ++ es)) (sym (turned_first first second path h))
+    (on_b (path ++ second ∷ []) es
+    (subst (λ o. IsWhole o es) (sym (turned_second second path k)) rest))))
+
+pub whole_after-flat : (t : Node) (path : Path) (es : List Entry) → IsWhole (turned path) es → IsWhole (Some path) (flat t ++ es)
+whole_after-flat (Leaf d) path es h = h
+whole_after-flat (OnSite s a b) path es h = whole_children (Closed s) (Opened s) path a b es refl refl (whole_after-flat a) (whole_after-flat b) h
+whole_after-flat (OnLane s c a b) path es h = whole_children (No s c) (Yes s c) path a b es refl refl (whole_after-flat a) (whole_after-flat b) h
+
+-- the nodes of a tree are whole
+pub whole-flat : (t : Node) → IsWhole (Some []) (flat t)
+whole-flat t = subst (IsWhole (Some [])) (append-nil (flat t)) (whole_after-flat t [] [] (subst (λ o. IsWhole o []) (sym turned_root) tt))
+
+-- how many splits above have their second child still to come
+abbrev firsts : Path → ℕ
+firsts [] = 0
+firsts (Closed s ∷ ds) = suc (firsts ds)
+firsts (No s c ∷ ds) = suc (firsts ds)
+firsts (Opened s ∷ ds) = firsts ds
+firsts (Yes s c ∷ ds) = firsts ds
+
+-- how many trees are still to come
+abbrev due : Option Path → ℕ
+due None = 0
+due (Some path) = suc (firsts path)
+
+firsts-cons : (d : Decision) (ds : Path) → firsts (d ∷ ds) ≡ firsts (d ∷ []) + firsts ds
+firsts-cons (Closed s) ds = omega arith
+firsts-cons (No s c) ds = omega arith
+firsts-cons (Opened s) ds = omega arith
+firsts-cons (Yes s c) ds = omega arith
+
+firsts_more : (path : Path) (d : Decision) → firsts (path ++ d ∷ []) ≡ firsts path + firsts (d ∷ [])
+firsts_more [] d = omega arith
+firsts_more (x ∷ xs) d = omega (arith, firsts-cons x (xs ++ d ∷ []), firsts-cons x xs, firsts_more xs d)
+
+due_within : (d : Decision) (o : Option Path) → due (turned_within d o) ≡ firsts (d ∷ []) + due o
+due_within (Closed s) None = refl
+due_within (No s c) None = refl
+due_within (Opened s) None = refl
+due_within (Yes s c) None = refl
+due_within (Closed s) (Some rest) = omega arith
+due_within (No s c) (Some rest) = omega arith
+due_within (Opened s) (Some rest) = omega arith
+due_within (Yes s c) (Some rest) = omega arith
+
+due_turned : (path : Path) → due (turned path) ≡ firsts path
+unfolding turned
+due_turned [] = refl
+due_turned (d ∷ ds) = omega (arith, due_within d (turned ds), due_turned ds, firsts-cons d ds)
+
+-- the nodes of trees one after another
+abbrev flats : List Node → List Entry
+flats [] = []
+flats (t ∷ ts) = flat t ++ flats ts
+
+on_site_parsed : (s : ℕ) (es : List Entry) (ts : List Node) (n : ℕ) → es ≡ flats ts → length ts ≡ suc (suc n) → (SiteSplit s ∷ es ≡ flats (joined_on_site s ts)) × (length (joined_on_site s ts) ≡ suc n)
+on_site_parsed s es [] n e h = absurd (omega arith)
+on_site_parsed s es (a ∷ []) n e h = absurd (omega arith)
+on_site_parsed s es (a ∷ b ∷ ts) n e h = (ap (λ xs. SiteSplit s ∷ xs) (e ∙ sym (append_assoc (flat a) (flat b) (flats ts))), omega arith)
+
+on_lane_parsed : (s c : ℕ) (es : List Entry) (ts : List Node) (n : ℕ) → es ≡ flats ts → length ts ≡ suc (suc n) → (LaneSplit s c ∷ es ≡ flats (joined_on_lane s c ts)) × (length (joined_on_lane s c ts) ≡ suc n)
+on_lane_parsed s c es [] n e h = absurd (omega arith)
+on_lane_parsed s c es (a ∷ []) n e h = absurd (omega arith)
+on_lane_parsed s c es (a ∷ b ∷ ts) n e h = (ap (λ xs. LaneSplit s c ∷ xs) (e ∙ sym (append_assoc (flat a) (flat b) (flats ts))), omega arith)
+
+-- what a walk takes for whole are as many trees as were still to come
+parsed : (at : Option Path) (es : List Entry) → IsWhole at es → (es ≡ flats (forest es)) × (length (forest es) ≡ due at)
+parsed None [] h = (refl, refl)
+parsed None (e ∷ es) h = absurd h
+parsed (Some p) [] h = absurd h
+parsed (Some p) (End d ∷ es) h =
+    let rest = parsed (turned p) es h in
+    (ap (λ xs. End d ∷ xs) rest.0, omega (arith, rest.1, due_turned p))
+parsed (Some p) (SiteSplit s ∷ es) h =
+    let rest = parsed (Some (p ++ Closed s ∷ [])) es h in
+    on_site_parsed s es (forest es) (firsts p) rest.0 (omega (arith, rest.1, firsts_more p (Closed s)))
+parsed (Some p) (LaneSplit s c ∷ es) h =
+    let rest = parsed (Some (p ++ No s c ∷ [])) es h in
+    on_lane_parsed s c es (forest es) (firsts p) rest.0 (omega (arith, rest.1, firsts_more p (No s c)))
+
+one_tree : (ts : List Node) (es : List Entry) → es ≡ flats ts → length ts ≡ 1 → es ≡ flat (first_tree ts)
+one_tree [] es e h = absurd (omega arith)
+one_tree (t ∷ []) es e h = e ∙ append-nil (flat t)
+one_tree (t ∷ u ∷ ts) es e h = absurd (omega arith)
+
+-- nodes that are whole are those of one tree
+pub flat-whole : (es : List Entry) → IsWhole (Some []) es → es ≡ flat (tree_of es)
+unfolding tree_of
+flat-whole es h = let all = parsed (Some []) es h in one_tree (forest es) es all.0 all.1
+
+walked_none : (at : Option Path) → walked at [] ≡ at
+walked_none None = refl
+walked_none (Some path) = refl
+
+-- one node more, for whoever keeps the path
+pub walked_more : (at : Option Path) (es : List Entry) (path : Path) (e : Entry) → walked at es ≡ Some path → walked at (es ++ e ∷ []) ≡ stepped path e
+walked_more None [] path e h = cc
+walked_more None (x ∷ xs) path e h = cc
+walked_more (Some p) [] path e h = let same : p ≡ path = cc in walked_none (stepped p e) ∙ ap (λ q. stepped q e) same
+walked_more (Some p) (x ∷ xs) path e h = walked_more (stepped p x) xs path e h
+
+-- the leaf that ends the whole tree
+pub whole_with : (at : Option Path) (es : List Entry) (path : Path) (d : Duals) → walked at es ≡ Some path → turned path ≡ None → IsWhole at (es ++ End d ∷ [])
+whole_with None [] path d h k = absurd cc
+whole_with None (x ∷ xs) path d h k = absurd cc
+whole_with (Some p) [] path d h k = let same : p ≡ path = cc in subst (λ o. IsWhole o []) (sym (ap turned same ∙ k)) tt
+whole_with (Some p) (x ∷ xs) path d h k = whole_with (stepped p x) xs path d h k
+
+-- a whole walk comes to nothing more
+pub walked_whole : (at : Option Path) (es : List Entry) → IsWhole at es → walked at es ≡ None
+walked_whole None [] h = refl
+walked_whole None (e ∷ es) h = absurd h
+walked_whole (Some p) [] h = absurd h
+walked_whole (Some p) (e ∷ es) h = walked_whole (stepped p e) es h
+
+pub whole_stored : {S C : List ℕ} {n : List Entry} → AreSound S C n → IsWhole (Some []) n → IsStored S C n
+whole_stored {S} {C} {n} sound whole = record { whole = flat-whole n whole; sound = sound.sound; few = sound.few }

@@ -1,0 +1,306 @@
+ghost use Rattle.std.specs.Prelude.{◌≡◌, ◌+◌, ◌≤◌, Contains, IfOk};
+ghost use Rattle.location_terms.specs.Instance.{site_ids};
+ghost use Rattle.location_terms.specs.Fit.{DualsFit};
+ghost use Rattle.location_terms.specs.Tree.{StandsOn, nodes_of};
+
+use super::*;
+use dual_value::fits;
+use instance_store::{CustRow, Instance, LaneRow, NoMemory, SiteRow};
+use location_terms::{CustId, SiteId};
+use std::alloc::Global;
+use std::test::Fail;
+
+// Three sites that cost 2 units each, in millionths, and three customers, each of whom two of the
+// sites serve at no cost.
+fn example(alloc: Global) -> Result<Instance, Fail> {
+    let first = LaneRow::from_vec(vec![in alloc; Some(0), Some(0), None]?);
+    let second = LaneRow::from_vec(vec![in alloc; None, Some(0), Some(0)]?);
+    let third = LaneRow::from_vec(vec![in alloc; Some(0), None, Some(0)]?);
+    let sites = vec![in alloc;
+        SiteRow {
+            id: SiteId::new(1),
+            fixed: 2_000_000,
+            cap: None,
+            lanes: first
+        },
+        SiteRow {
+            id: SiteId::new(2),
+            fixed: 2_000_000,
+            cap: None,
+            lanes: second
+        },
+        SiteRow {
+            id: SiteId::new(3),
+            fixed: 2_000_000,
+            cap: None,
+            lanes: third
+        },
+    ]?;
+    let custs = vec![in alloc;
+        CustRow {
+            id: CustId::new(1),
+            demand: 0
+        },
+        CustRow {
+            id: CustId::new(2),
+            demand: 0
+        },
+        CustRow {
+            id: CustId::new(3),
+            demand: 0
+        },
+    ]?;
+    Ok(Instance::from_parts(alloc, 0, 3_000, 4, 4, custs, sites)?)
+}
+
+// Duals of this scale, with these values of the customers and no other price, which fit.
+fn duals(alloc: Global, inst: &Instance, q: u32, v: [i128; 3]) -> Result<Duals, Fail>
+    ensures { IfOk result (DualsFit inst.now) }
+{
+    let values = Vec::from_array(alloc, v)?;
+    let prices = Vec::from_array(alloc, [0; 3])?;
+    let duals = Duals::from_lists(q, 0, values, prices);
+    if inst.custs() != duals.customers() || inst.sites() != duals.sites() {
+        return Err(Fail::new("an instance of another size"));
+    }
+    fits(&duals, inst)?;
+    Ok(duals)
+}
+
+// A tree of one leaf.
+fn leaf(alloc: Global, inst: &Instance, q: u32, v: [i128; 3]) -> Result<Tree, Fail>
+    ensures stands { IfOk result (λ t. StandsOn t inst.now) }
+    ensures one { IfOk result (λ t. nodes_of t ≡ 1) }
+{
+    let duals = duals(alloc, inst, q, v)?;
+    Ok(Tree::leaf(alloc, inst, duals)?)
+}
+
+// A split on the first site.
+fn split(inst: &Instance, closed: Tree, opened: Tree) -> Result<Tree, Fail>
+    requires closed { StandsOn closed inst.now }
+    requires opened { StandsOn opened inst.now }
+    requires few { nodes_of closed + nodes_of opened ≤ 100 }
+    ensures stands { IfOk result (λ t. StandsOn t inst.now) }
+    ensures nodes { IfOk result (λ t. nodes_of t ≡ nodes_of closed + nodes_of opened + 1) }
+{
+    let site = SiteId::new(1);
+    if inst.site_at(site).is_none() {
+        return Err(Fail::new("no such site"));
+    }
+    Ok(Tree::on_site(site, closed, opened)?)
+}
+
+// The split on the first site, whose leaves both show 4 units.
+fn example_tree(alloc: Global, inst: &Instance) -> Result<Tree, Fail>
+    ensures stands { IfOk result (λ t. StandsOn t inst.now) }
+    ensures nodes { IfOk result (λ t. nodes_of t ≡ 3) }
+{
+    let closed = leaf(alloc, inst, 1, [2_000_000, 2_000_000, 0])?;
+    let opened = leaf(alloc, inst, 1, [0, 0, 2_000_000])?;
+    split(inst, closed, opened)
+}
+
+// The example with a second split on the same site in its first child, whose second child's box no
+// plan is in: its duals show that at scale 0.
+fn decided_tree(alloc: Global, inst: &Instance) -> Result<Tree, Fail>
+    ensures { IfOk result (λ t. StandsOn t inst.now) }
+{
+    let closed = leaf(alloc, inst, 1, [2_000_000, 2_000_000, 0])?;
+    let torn = leaf(alloc, inst, 0, [1, 0, 0])?;
+    let again = split(inst, closed, torn)?;
+    let opened = leaf(alloc, inst, 1, [0, 0, 2_000_000])?;
+    split(inst, again, opened)
+}
+
+// Whether the leaves are those of a split on the first site twice, in its first child again.
+fn has_decided_paths(tree: &Tree) -> Result<bool, NoMemory> {
+    let closed = Decision::Closed(SiteId::new(1));
+    let opened = Decision::Opened(SiteId::new(1));
+    Ok(
+        has_path(tree, 0, &[closed, closed])?
+            && has_path(tree, 1, &[closed, opened])?
+            && has_path(tree, 2, &[opened])?
+            && has_depth(tree, 1, 2)
+            && has_step(tree, 1, 0, closed)
+            && has_step(tree, 1, 1, opened),
+    )
+}
+
+// Whether the tree has these three nodes and two leaves.
+fn has_nodes(tree: &Tree, nodes: [Node; 3]) -> bool {
+    tree.nodes() == 3
+        && tree.leaf_count() == 2
+        && tree.node(0) == nodes[0]
+        && tree.node(1) == nodes[1]
+        && tree.node(2) == nodes[2]
+}
+
+// Whether the duals of a leaf have these values.
+fn has_values(tree: &Tree, k: usize, q: u32, v: [i128; 3]) -> bool {
+    k < tree.leaf_count()
+        && tree.leaf_duals(k).q() == q
+        && tree.leaf_duals(k).values() == v.as_slice()
+}
+
+// Whether the node at a place is a leaf whose duals have these values.
+fn ends_with(tree: &Tree, at: u32, v: [i128; 3]) -> bool {
+    match tree.duals(at) {
+        Some(duals) => duals.values() == v.as_slice(),
+        None => false,
+    }
+}
+
+// Whether the path to a leaf has these steps.
+fn has_path(tree: &Tree, k: usize, steps: &[Decision]) -> Result<bool, NoMemory> {
+    if k >= tree.leaf_count() {
+        return Ok(false);
+    }
+    let path = tree.leaf_path(k)?;
+    Ok(path.as_slice() == steps)
+}
+
+fn has_depth(tree: &Tree, k: usize, depth: usize) -> bool {
+    k < tree.leaf_count() && tree.leaf_depth(k) == depth
+}
+
+fn has_step(tree: &Tree, k: usize, at: usize, step: Decision) -> bool {
+    k < tree.leaf_count() && at < tree.leaf_depth(k) && tree.leaf_step(k, at) == step
+}
+
+// Whether the leaves close against the low end, which the tree shows.
+fn has_low(tree: &Tree, inst: &Instance, low: u64) -> Result<bool, NoMemory>
+    requires { StandsOn tree.now inst.now }
+{
+    let closed = tree.accepts(inst, Some(low))?;
+    if !closed {
+        return Ok(false);
+    }
+    Ok(tree.low(inst)? == low)
+}
+
+// The same tree as the example, made node by node.
+fn built(alloc: Global, inst: &Instance) -> Result<Tree, Fail> {
+    let closed = duals(alloc, inst, 1, [2_000_000, 2_000_000, 0])?;
+    let opened = duals(alloc, inst, 1, [0, 0, 2_000_000])?;
+    let site = SiteId::new(1);
+    if inst.site_at(site).is_none() {
+        return Err(Fail::new("no such site"));
+    }
+    Ok(built_of(alloc, inst, site, closed, opened)?)
+}
+
+fn built_of(
+    alloc: Global,
+    inst: &Instance,
+    site: SiteId,
+    closed: Duals,
+    opened: Duals,
+) -> Result<Tree, NoMemory>
+    requires site { Contains (site_ids inst.now) site }
+    requires closed { DualsFit inst.now closed }
+    requires opened { DualsFit inst.now opened }
+{
+    let mut builder = Builder::on(alloc, inst)?;
+    builder.split_site(site)?;
+    builder.leaf(closed)?;
+    builder.leaf(opened)?;
+    Ok(builder.finish())
+}
+
+#[test]
+fn shows_its_nodes_and_leaves(rt: HostRuntime) -> Result<(), Fail> {
+    let inst = example(rt.alloc())?;
+    let tree = example_tree(rt.alloc(), &inst)?;
+    let site = Node::Site(SiteId::new(1));
+    assert!(rt; has_nodes(&tree, [site, Node::Leaf, Node::Leaf]));
+    assert!(rt; has_values(&tree, 0, 1, [2_000_000, 2_000_000, 0]));
+    assert!(rt; has_values(&tree, 1, 1, [0, 0, 2_000_000]));
+    Ok(())
+}
+
+#[test]
+fn shows_the_duals_of_its_nodes(rt: HostRuntime) -> Result<(), Fail> {
+    let inst = example(rt.alloc())?;
+    let tree = example_tree(rt.alloc(), &inst)?;
+    assert!(rt; tree.duals(0).is_none() && tree.duals(3).is_none());
+    assert!(rt; ends_with(&tree, 1, [2_000_000, 2_000_000, 0]));
+    assert!(rt; ends_with(&tree, 2, [0, 0, 2_000_000]));
+    Ok(())
+}
+
+#[test]
+fn closes_up_to_its_low_end(rt: HostRuntime) -> Result<(), Fail> {
+    let inst = example(rt.alloc())?;
+    let tree = example_tree(rt.alloc(), &inst)?;
+    assert!(rt; tree.accepts(&inst, Some(4_000_000))?);
+    assert!(rt; !tree.accepts(&inst, Some(4_000_001))?);
+    Ok(())
+}
+
+#[test]
+fn shows_its_low_end(rt: HostRuntime) -> Result<(), Fail> {
+    let inst = example(rt.alloc())?;
+    let tree = example_tree(rt.alloc(), &inst)?;
+    assert!(rt; has_low(&tree, &inst, 4_000_000)?);
+    Ok(())
+}
+
+#[test]
+fn leads_to_each_leaf(rt: HostRuntime) -> Result<(), Fail> {
+    let inst = example(rt.alloc())?;
+    let tree = example_tree(rt.alloc(), &inst)?;
+    let closed = Decision::Closed(SiteId::new(1));
+    let opened = Decision::Opened(SiteId::new(1));
+    assert!(rt; has_path(&tree, 0, &[closed])? && has_path(&tree, 1, &[opened])?);
+    assert!(rt; has_depth(&tree, 0, 1) && has_step(&tree, 0, 0, closed));
+    assert!(rt; has_depth(&tree, 1, 1) && has_step(&tree, 1, 0, opened));
+    Ok(())
+}
+
+#[test]
+fn replaces_a_leaf(rt: HostRuntime) -> Result<(), Fail> {
+    let inst = example(rt.alloc())?;
+    let mut tree = example_tree(rt.alloc(), &inst)?;
+    let part = example_tree(rt.alloc(), &inst)?;
+    assert!(rt; tree.leaf_count() == 2);
+    tree.replace_leaf(0, part)?;
+    assert!(rt; tree.nodes() == 5 && tree.leaf_count() == 3);
+    assert!(rt; has_decided_paths(&tree)?);
+    Ok(())
+}
+
+#[test]
+fn accepts_a_split_on_a_site_that_is_decided(rt: HostRuntime) -> Result<(), Fail> {
+    let inst = example(rt.alloc())?;
+    let tree = decided_tree(rt.alloc(), &inst)?;
+    assert!(rt; has_decided_paths(&tree)?);
+    assert!(rt; tree.accepts(&inst, Some(4_000_000))?);
+    assert!(rt; !tree.accepts(&inst, Some(4_000_001))?);
+    Ok(())
+}
+
+#[test]
+fn is_built_node_by_node(rt: HostRuntime) -> Result<(), Fail> {
+    let inst = example(rt.alloc())?;
+    let tree = built(rt.alloc(), &inst)?;
+    let site = Node::Site(SiteId::new(1));
+    assert!(rt; has_nodes(&tree, [site, Node::Leaf, Node::Leaf]));
+    assert!(rt; has_values(&tree, 0, 1, [2_000_000, 2_000_000, 0]));
+    assert!(rt; has_values(&tree, 1, 1, [0, 0, 2_000_000]));
+    Ok(())
+}
+
+#[test]
+fn passes_from_leaf_to_leaf(rt: HostRuntime) -> Result<(), Fail> {
+    let site = SiteId::new(1);
+    let other = SiteId::new(2);
+    let mut path = Path::root(rt.alloc());
+    path.push(Decision::Closed(site))?;
+    path.push(Decision::Opened(other))?;
+    assert!(rt; pass_leaf(&mut path)?);
+    assert!(rt; path.as_slice() == [Decision::Opened(site)].as_slice());
+    assert!(rt; !pass_leaf(&mut path)?);
+    assert!(rt; path.steps() == 0);
+    Ok(())
+}
