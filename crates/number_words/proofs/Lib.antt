@@ -1,0 +1,5 @@
+pub mod Digits
+pub mod Numbers
+pub mod Costs
+pub mod Lines
+pub mod Values

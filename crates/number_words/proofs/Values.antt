@@ -1,0 +1,167 @@
+-- Steps of a reader of digits, and how digits compare.
+use Rattle.std.proofs.Common.{◌≡◌, ℕ, ◌+◌, ◌-◌, ◌*◌, ◌<◌, ◌≤◌, ◌^◌, Bool, true, false, ◌&&◌, not, ◌==◌, nat_lt, min, List, [], ◌∷◌, ◌++◌, length, get_or, drop, sym, refl, ap, ◌∙◌, subst, arith, inl, inr}
+use Rattle.std.specs.Prelude.{filter, ◌↔◌, IsTrue}
+use Rattle.std.specs.Char.{is_ascii_digit, digit_value}
+use Rattle.std.specs.Cmp.Lexicographic.{slice_cmp}
+use Rattle.std.specs.List.{list_all}
+use Rattle.std.specs.Ordering.{nat_cmp, is_lt}
+use Rattle.std.specs.Str.{all_ascii_digits}
+use Rattle.std.specs.Str.Parse.{digits_value, digits_value_after}
+use Rattle.std.proofs.Math.Nat.{mul-le-mul_right, pow-le-pow_right}
+use Rattle.std.proofs.lemmas.Bool.{cases_order, and_parts, and_from, lt-ltb, le-ltb, ltb-true}
+use Rattle.std.proofs.lemmas.Bool.Decides.{nat_tests}
+use Rattle.std.proofs.lemmas.List.{at_drop_more, append-nil}
+use Rattle.fixed_cost.proofs.DigitSteps.{capped-after}
+use Rattle.number_words.specs.Number.{is_digits, is_plain_digits}
+use Rattle.number_words.specs.Cost.{units_of, decimals_of, is_cost}
+use Rattle.number_words.proofs.Digits.{digit_value-of, digits_value_after-weight, digits_value-below, is_digits-parts, is_plain_digits-parts}
+use Rattle.number_words.proofs.Costs.{cost_parts}
+
+-- the test of each byte is the test of digits
+pub list_all-digits : (ds : List ℕ) → list_all is_ascii_digit ds ≡ all_ascii_digits ds
+list_all-digits [] = refl
+list_all-digits (c ∷ cs) = ap (λ b. is_ascii_digit c && b) (list_all-digits cs)
+
+-- one step of a reader along a list of digits, up to a cap
+pub capped-digit : (cap v c : ℕ) (cs : List ℕ) → is_ascii_digit c ≡ true → min (digits_value_after 10 (min (v * 10 + (c - 48)) cap) cs) cap ≡ min (digits_value_after 10 v (c ∷ cs)) cap
+capped-digit cap v c cs digit =
+    let of = digit_value-of c digit in
+    let same : c - 48 ≡ digit_value c = omega arith in
+    capped-after cap cs (v * 10 + (c - 48)) ∙ ap (λ d. min (digits_value_after 10 (v * 10 + d) cs) cap) same
+
+pub capped-drop : (cap v : ℕ) (ds : List ℕ) (i : ℕ) → i < length ds → is_ascii_digit (get_or ds i 0) ≡ true → min (digits_value_after 10 (min (v * 10 + (get_or ds i 0 - 48)) cap) (drop (i + 1) ds)) cap ≡ min (digits_value_after 10 v (drop i ds)) cap
+capped-drop cap v ds i inside digit =
+    capped-digit cap v (get_or ds i 0) (drop (i + 1) ds) digit ∙ sym (at_drop_more (λ xs. min (digits_value_after 10 v xs) cap) ds i 0 inside)
+
+pub digit-drop : (ds : List ℕ) (i : ℕ) → i < length ds → all_ascii_digits (drop i ds) ≡ true → (is_ascii_digit (get_or ds i 0) ≡ true) × (all_ascii_digits (drop (i + 1) ds) ≡ true)
+digit-drop ds i inside digits = and_parts _ _ (sym (at_drop_more all_ascii_digits ds i 0 inside) ∙ digits)
+
+-- the bytes of a word but its points
+abbrev pub digits_in : List ℕ → List ℕ
+digits_in word = filter (λ b. not (b == 46)) word
+
+pub digits_in-point : (b : ℕ) (bs : List ℕ) → b ≡ 46 → digits_in (b ∷ bs) ≡ digits_in bs
+digits_in-point b bs point = let is : b == 46 ≡ true = grind (arith, nat_tests) in rw is refl
+
+pub digits_in-other : (b : ℕ) (bs : List ℕ) → (b ≡ 46 → ⊥) → digits_in (b ∷ bs) ≡ b ∷ digits_in bs
+digits_in-other b bs other = let is : b == 46 ≡ false = grind (arith, nat_tests) in rw is refl
+
+digits_in-digits : (ds zs : List ℕ) → all_ascii_digits ds ≡ true → digits_in (ds ++ zs) ≡ ds ++ digits_in zs
+digits_in-digits [] zs digits = refl
+digits_in-digits (c ∷ cs) zs digits =
+    let both = and_parts (is_ascii_digit c) (all_ascii_digits cs) digits in
+    let of = digit_value-of c both.0 in
+    digits_in-other c (cs ++ zs) (λ point. omega arith) ∙ ap (λ xs. c ∷ xs) (digits_in-digits cs zs both.1)
+
+digits_append : (xs ys : List ℕ) → all_ascii_digits xs ≡ true → all_ascii_digits ys ≡ true → all_ascii_digits (xs ++ ys) ≡ true
+digits_append [] ys a b = b
+digits_append (x ∷ xs) ys a b =
+    let both = and_parts (is_ascii_digit x) (all_ascii_digits xs) a in
+    and_from _ _ both.0 (digits_append xs ys both.1 b)
+
+-- a cost's bytes but its point are its digits
+pub digits_in-cost : (w : List ℕ) → is_cost w ≡ true → (digits_in w ≡ units_of w ++ decimals_of w) × (all_ascii_digits (digits_in w) ≡ true)
+digits_in-cost w cost =
+    let both = and_parts (is_digits (units_of w)) (is_digits (decimals_of w)) cost in
+    let units = is_digits-parts (units_of w) both.0 in
+    let decimals = is_digits-parts (decimals_of w) both.1 in
+    let same : digits_in w ≡ units_of w ++ decimals_of w =
+    ap digits_in (cost_parts w decimals.0) ∙ digits_in-digits (units_of w) (46 ∷ decimals_of w) units.1
+    ∙ ap (λ xs. units_of w ++ xs) (ap digits_in (sym (append-nil (decimals_of w))) ∙ digits_in-digits (decimals_of w) [] decimals.1 ∙ append-nil (decimals_of w)) in
+    (same, ap all_ascii_digits same ∙ digits_append (units_of w) (decimals_of w) units.1 decimals.1)
+
+-- one step of a reader along a cost: a digit, and the point
+pub digit-cost : (w : List ℕ) (i : ℕ) → i < length w → (get_or w i 0 ≡ 46 → ⊥) → all_ascii_digits (digits_in (drop i w)) ≡ true → (is_ascii_digit (get_or w i 0) ≡ true) × (all_ascii_digits (digits_in (drop (i + 1) w)) ≡ true)
+digit-cost w i inside other digits =
+    and_parts _ _ (sym (ap all_ascii_digits (at_drop_more digits_in w i 0 inside ∙ digits_in-other (get_or w i 0) (drop (i + 1) w) other)) ∙ digits)
+
+pub capped-cost : (cap v : ℕ) (w : List ℕ) (i : ℕ) → i < length w → (get_or w i 0 ≡ 46 → ⊥) → all_ascii_digits (digits_in (drop i w)) ≡ true → min (digits_value_after 10 (min (v * 10 + (get_or w i 0 - 48)) cap) (digits_in (drop (i + 1) w))) cap ≡ min (digits_value_after 10 v (digits_in (drop i w))) cap
+capped-cost cap v w i inside other digits =
+    let more = at_drop_more digits_in w i 0 inside ∙ digits_in-other (get_or w i 0) (drop (i + 1) w) other in
+    capped-digit cap v (get_or w i 0) (digits_in (drop (i + 1) w)) (digit-cost w i inside other digits).0 ∙ sym (ap (λ xs. min (digits_value_after 10 v xs) cap) more)
+
+pub point-cost : (w : List ℕ) (i : ℕ) → i < length w → get_or w i 0 ≡ 46 → digits_in (drop i w) ≡ digits_in (drop (i + 1) w)
+point-cost w i inside point = at_drop_more digits_in w i 0 inside ∙ digits_in-point (get_or w i 0) (drop (i + 1) w) point
+
+-- digits that do not begin with a zero are worth a one behind which as many zeros stand as there are others
+digits_value-least : (c : ℕ) (cs : List ℕ) → all_ascii_digits (c ∷ cs) ≡ true → (c ≡ 48 → ⊥) → 10 ^ length cs ≤ digits_value 10 (c ∷ cs)
+digits_value-least c cs digits leads =
+    let of = digit_value-of c (and_parts (is_ascii_digit c) (all_ascii_digits cs) digits).0 in
+    let one : 1 * 10 ^ length cs ≤ (0 * 10 + digit_value c) * 10 ^ length cs = mul-le-mul_right (10 ^ length cs) (omega arith) in
+    omega (arith, digits_value_after-weight cs (0 * 10 + digit_value c))
+
+-- fewer plain digits are worth less
+pub digits_value-shorter : (xs ys : List ℕ) → is_plain_digits xs ≡ true → is_plain_digits ys ≡ true → length xs < length ys → digits_value 10 xs < digits_value 10 ys
+digits_value-shorter xs [] plain_x plain_y shorter = absurd (omega arith)
+digits_value-shorter xs (c ∷ cs) plain_x plain_y shorter =
+    let digits_x = is_digits-parts xs (is_plain_digits-parts xs plain_x).0 in
+    let parts_y = is_plain_digits-parts (c ∷ cs) plain_y in
+    let digits_y = is_digits-parts (c ∷ cs) parts_y.0 in
+    let leads : c ≡ 48 → ⊥ = λ e. omega (arith, parts_y.1 e) in
+    let least = digits_value-least c cs digits_y.1 leads in
+    let below = digits_value-below xs digits_x.1 in
+    let wide : 10 ^ length xs ≤ 10 ^ length cs = pow-le-pow_right {n = 10} (omega arith) (omega arith) in
+    omega arith
+
+-- a greater first digit is worth more than all digits behind a lesser one
+first_decides : (d e p v w : ℕ) → d < e → v < p → d * p + v < e * p + w
+first_decides d e p v w less below = let more : (d + 1) * p ≤ e * p = mul-le-mul_right p (omega arith) in omega arith
+
+digits_value-first : (c : ℕ) (cs : List ℕ) → digits_value 10 (c ∷ cs) ≡ digit_value c * 10 ^ length cs + digits_value 10 cs
+digits_value-first c cs = digits_value_after-weight cs (0 * 10 + digit_value c) ∙ ap (λ d. d * 10 ^ length cs + digits_value 10 cs) (omega arith)
+
+-- as many digits are told apart by the first in which they differ
+pub is_lt-slice_cmp : (xs ys : List ℕ) → all_ascii_digits xs ≡ true → all_ascii_digits ys ≡ true → length xs ≡ length ys → is_lt (slice_cmp nat_cmp xs ys) ≡ nat_lt (digits_value 10 xs) (digits_value 10 ys)
+is_lt-slice_cmp [] [] digits_x digits_y long = refl
+is_lt-slice_cmp [] (y ∷ ys) digits_x digits_y long = absurd (omega arith)
+is_lt-slice_cmp (x ∷ xs) [] digits_x digits_y long = absurd (omega arith)
+is_lt-slice_cmp (x ∷ xs) (y ∷ ys) digits_x digits_y long =
+    let both_x = and_parts (is_ascii_digit x) (all_ascii_digits xs) digits_x in
+    let both_y = and_parts (is_ascii_digit y) (all_ascii_digits ys) digits_y in
+    let of_x = digit_value-of x both_x.0 in
+    let of_y = digit_value-of y both_y.0 in
+    let p = 10 ^ length xs in
+    let wide : 10 ^ length ys ≡ p = ap (λ n. 10 ^ n) (omega arith) in
+    let value_x = digits_value-first x xs in
+    let value_y : digits_value 10 (y ∷ ys) ≡ digit_value y * p + digits_value 10 ys = digits_value-first y ys ∙ ap (λ q. digit_value y * q + digits_value 10 ys) wide in
+    let below_x : digits_value 10 xs < p = digits_value-below xs both_x.1 in
+    let below_y : digits_value 10 ys < p = subst (λ q. digits_value 10 ys < q) wide (digits_value-below ys both_y.1) in
+    elim (cases_order x y) [
+      | inl same ↦
+          let not_less : nat_lt x y ≡ false = grind (arith, nat_tests) in
+          let equal : x == y ≡ true = grind (arith, nat_tests) in
+          rw (not_less, equal) (is_lt-slice_cmp xs ys both_x.1 both_y.1 (omega arith)
+          ∙ later (digit_value x * p) (digits_value 10 xs) (digits_value 10 ys) _ _ value_x (value_y ∙ ap (λ d. d * p + digits_value 10 ys) (omega arith)))
+      | inr (inl less) ↦
+          let is : nat_lt x y ≡ true = grind (arith, nat_tests) in
+          let first = first_decides (digit_value x) (digit_value y) p (digits_value 10 xs) (digits_value 10 ys) (omega arith) below_x in
+          rw is (sym (lt-ltb _ _ (omega arith)))
+      | inr (inr more) ↦
+          let not_less : nat_lt x y ≡ false = grind (arith, nat_tests) in
+          let other : x == y ≡ false = grind (arith, nat_tests) in
+          let first = first_decides (digit_value y) (digit_value x) p (digits_value 10 ys) (digits_value 10 xs) (omega arith) below_y in
+          rw (not_less, other) (sym (le-ltb _ _ (omega arith)))
+    ]
+  where
+    later : (k a b v w : ℕ) → v ≡ k + a → w ≡ k + b → nat_lt a b ≡ nat_lt v w
+    later k a b v w is_v is_w = grind (arith, nat_tests)
+
+-- a test of lengths where these differ, and of the digits where not, decides which value is less
+pub longer_is_more : (xs ys : List ℕ) → is_plain_digits xs ≡ true → is_plain_digits ys ≡ true → (length xs ≡ length ys → ⊥) → (IsTrue (nat_lt (length xs) (length ys))) ↔ (digits_value 10 xs < digits_value 10 ys)
+longer_is_more xs ys plain_x plain_y other =
+    (λ shorter. digits_value-shorter xs ys plain_x plain_y (ltb-true _ _ shorter), λ less. lt-ltb _ _ (shorter less))
+  where
+    shorter : digits_value 10 xs < digits_value 10 ys → length xs < length ys
+    shorter less =
+        elim (cases_order (length xs) (length ys)) [
+          | inl same ↦ absurd (other same)
+          | inr (inl is) ↦ is
+          | inr (inr longer) ↦ absurd (omega (arith, digits_value-shorter ys xs plain_y plain_x longer))
+        ]
+
+pub first_difference : (xs ys : List ℕ) (r : Bool) → is_plain_digits xs ≡ true → is_plain_digits ys ≡ true → length xs ≡ length ys → r ≡ is_lt (slice_cmp nat_cmp xs ys) → IsTrue r ↔ (digits_value 10 xs < digits_value 10 ys)
+first_difference xs ys r plain_x plain_y long is =
+    let digits_x = (is_digits-parts xs (is_plain_digits-parts xs plain_x).0).1 in
+    let digits_y = (is_digits-parts ys (is_plain_digits-parts ys plain_y).0).1 in
+    let same : r ≡ nat_lt (digits_value 10 xs) (digits_value 10 ys) = is ∙ is_lt-slice_cmp xs ys digits_x digits_y long in
+    (λ yes_it_is. ltb-true _ _ (sym same ∙ yes_it_is), λ less. same ∙ lt-ltb _ _ less)

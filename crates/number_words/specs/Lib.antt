@@ -1,0 +1,4 @@
+-- The definitions that the contracts cite.
+pub mod Cost
+pub mod Line
+pub mod Number

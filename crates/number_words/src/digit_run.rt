@@ -1,0 +1,53 @@
+//! Runs of digits, and what they are worth.
+
+ghost use Rattle.std.specs.Prelude.{◌≡◌, ◌+◌, ◌*◌, ◌≤◌, true, min};
+ghost use Rattle.std.specs.Char.{is_ascii_digit};
+ghost use Rattle.std.specs.List.{list_all};
+ghost use Rattle.std.specs.Str.{all_ascii_digits};
+ghost use Rattle.std.specs.Str.Parse.{digits_value};
+ghost use Rattle.number_words.specs.Number.{is_digits, is_plain_digits};
+
+/// Values stop here, so that words of any length can be read: 10^30.
+pub(crate) const CAP: u128 = 1_000_000_000_000_000_000_000_000_000_000;
+
+/// Whether a word is one digit or more, and nothing else.
+pub(crate) fn is_digits(word: &[u8]) -> bool
+    ensures { result ≡ is_digits word.now }
+{
+    !word.is_empty() && has_digits_alone(word)
+}
+
+/// Whether each byte is a digit.
+fn has_digits_alone(word: &[u8]) -> bool
+    ensures { result ≡ list_all is_ascii_digit word.now }
+{
+    word.iter().all(|b| b.is_ascii_digit())
+}
+
+/// Whether a word is digits without a leading zero, or `0` itself.
+pub(crate) fn is_plain_digits(word: &[u8]) -> bool
+    ensures { result ≡ is_plain_digits word.now }
+{
+    is_digits(word) && (word[0] != b'0' || word.len() == 1)
+}
+
+/// The value with one more digit behind it, or `CAP` past it.
+pub(crate) fn push_digit(value: u128, digit: u8) -> u128
+    requires value { value ≤ CAP }
+    requires digit { digit ≤ 9 }
+    ensures { result ≡ min (value * 10 + digit) CAP }
+{
+    (value * 10 + u128::from(digit)).min(CAP)
+}
+
+/// The value of digits, or `CAP` past it.
+pub(crate) fn capped_value(digits: &[u8]) -> u128
+    requires { all_ascii_digits digits.now ≡ true }
+    ensures { result ≡ min (digits_value 10 digits.now) CAP }
+{
+    let mut value = 0;
+    for b in digits {
+        value = push_digit(value, *b - b'0');
+    }
+    value
+}
