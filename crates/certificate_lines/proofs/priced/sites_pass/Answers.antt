@@ -1,0 +1,13 @@
+use Rattle.std.proofs.Common.{◌≡◌, true, ap, ◌∙◌, sym, subst}
+use Rattle.std.specs.List.{list_all}
+use Rattle.number_words.specs.Number.{is_number}
+use Rattle.certificate_lines.specs.Lines.{args, numbers}
+use Rattle.certificate_lines.specs.Pass.{passes}
+use Rattle.certificate_lines.proofs.Pairs.{ids_are, all-ids}
+use Rattle.certificate_lines.proofs.priced.sites_pass.Goals as goal
+
+pub all_pass-requires : goal.all_pass-requires
+all_pass-requires c = subst (λ ws. list_all is_number ws ≡ true) (sym c.sites.ensures) (all-ids is_number (args c.args.line.now) c.requires)
+
+pub returns : goal.returns
+returns c = c.all_pass.ensures ∙ ap (λ ws. list_all (passes c.args.test) (numbers ws)) c.sites.ensures ∙ ap (list_all (passes c.args.test)) (ids_are (args c.args.line.now))

@@ -1,0 +1,49 @@
+-- Which line of a certificate's text is due, and what a line shows.
+use Rattle.std.specs.Prelude.{◌≡◌, ℕ, ◌≤◌, List, [], length, All, Option, None, Some, ℤ, unsigned_abs}
+use Rattle.location_terms.specs.declared.claim.Claim.{Claim}
+use Rattle.location_terms.specs.declared.claim.Claim.TheVariants.{Optimal, Infeasible, Bracket}
+use Rattle.location_terms.specs.declared.limits.TheConstants.{MAX_SCALE, MAX_VALUE}
+use Rattle.location_terms.specs.Instance.{Instance}
+use Rattle.location_terms.specs.Plan.{Plan}
+use Rattle.location_terms.specs.Box.{Path}
+use Rattle.location_terms.specs.Bound.{Duals}
+use Rattle.branch_tree.specs.Walk.{turned}
+
+-- The line that is due, with what the lines before it say. A node is due at a path, and once the tree is whole the end is.
+pub data Due : Type 0 where
+  HeaderDue SizesDue MustOpenDue MustClosedDue ClaimDue : Due
+  OpenDue : Claim → Due
+  ServeDue : Claim → (sites : List ℕ) → Due
+  NodeDue : Claim → Path → Due
+  ValuesDue : Claim → Path → (q : ℕ) → (nu : ℤ) → Due
+  PricesDue : Claim → Path → (q : ℕ) → (nu : ℤ) → (v : List ℤ) → Due
+  EndDue NothingDue : Claim → Due
+
+-- what there is to judge once a line is read: a plan for its claim, or a leaf; a split is told too
+pub data Shown : Type 0 where
+  NothingShown : Shown
+  PlanShown : Claim → Plan → Shown
+  SiteShown : (site : ℕ) → Shown
+  LaneShown : (site customer : ℕ) → Shown
+  LeafShown : Claim → Path → Duals → Shown
+
+-- what is due behind the claim: a plan where the claim has a cost to show, else the tree
+abbrev pub behind_claim : Claim → Due
+behind_claim (Optimal cost) = OpenDue (Optimal cost)
+behind_claim Infeasible = NodeDue Infeasible []
+behind_claim (Bracket low None) = NodeDue (Bracket low None) []
+behind_claim (Bracket low (Some high)) = OpenDue (Bracket low (Some high))
+
+-- what is due behind a whole tree below a path: the next child that is left, or the end
+abbrev pub node_or_end : Claim → Option Path → Due
+node_or_end claim (Some path) = NodeDue claim path
+node_or_end claim None = EndDue claim
+
+abbrev pub behind_leaf : Claim → Path → Due
+behind_leaf claim path = node_or_end claim (turned path)
+
+-- the numbers that the lines before gave are within their limits, and there are as many as the instance asks for
+abbrev pub Suits : Instance → Due → Type 0
+Suits I (ValuesDue claim path q nu) = (q ≤ MAX_SCALE) × (unsigned_abs nu ≤ MAX_VALUE)
+Suits I (PricesDue claim path q nu v) = (q ≤ MAX_SCALE) × (unsigned_abs nu ≤ MAX_VALUE) × (length v ≡ length I.customers) × All (λ x. unsigned_abs x ≤ MAX_VALUE) v
+Suits I due = Unit {0}
