@@ -1,0 +1,9 @@
+pub mod Keeping
+pub mod Parted
+pub mod Reached
+pub mod Exits
+pub mod Rows
+pub mod Nodes
+pub mod Parts
+pub mod Alike
+pub mod Faultless

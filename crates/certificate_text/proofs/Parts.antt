@@ -1,0 +1,167 @@
+-- A file that is written part by part.
+use Rattle.std.proofs.Common.{◌≡◌, ℕ, ◌+◌, ◌<◌, ◌≤◌, List, [], ◌∷◌, ◌++◌, length, length-append, get_or, take, drop, refl, ap, sym, ◌∙◌, arith, append_assoc, append-nil, inl, inr, Option}
+use Rattle.std.specs.Prelude.{codes, flat_map, Result, OnOk}
+use Rattle.std.proofs.lemmas.Grind.{flat_map-append}
+use Rattle.std.proofs.lemmas.List.{take_at, take_more, drop_more, drop_all, take-append-drop}
+use Rattle.shelf_port.proofs.Results.{OnOk-then}
+use Rattle.shelf_port.specs.Files.{Files, with_file, with_added, LeavesPrefix, AddsPrefix}
+use Rattle.shelf_port.proofs.Told.{with_added-with_file}
+use Rattle.location_terms.specs.Instance.{Instance}
+use Rattle.location_terms.specs.Plan.{Plan}
+use Rattle.location_terms.specs.Certificate.{Certificate}
+use Rattle.branch_tree.specs.declared.entry.Entry.{Entry}
+use Rattle.branch_tree.specs.declared.entry.Entry.TheVariants.{End}
+use Rattle.branch_tree.specs.Preorder.{flat, no_duals}
+use Rattle.number_words.specs.Line.{spaced}
+use Rattle.certificate_lines.specs.Text.{header_words, sizes_line, status_lines, claim_line, plan_lines, node_lines, certificate_text, text_of_lines}
+use Rattle.certificate_text.specs.Written.{head_lines, entry_text}
+use Rattle.certificate_text.proofs.Nodes.{text_of_lines-append, one_line, more_lines, node_text}
+
+-- what stands in the file is a prefix of the whole
+pub held : (start now : Option Files) (name front rest whole : List ℕ) → now ≡ with_file start name front → front ++ rest ≡ whole → LeavesPrefix start now name whole
+held start now name front rest whole is parts =
+    inr (
+      length front,
+      omega (arith, length-append front rest, ap length parts),
+      is ∙ ap (with_file start name) (sym (take_at front rest (length front) refl) ∙ ap (take (length front)) parts),
+    )
+
+-- a part more
+pub held_all : (start before after : Option Files) (name front more : List ℕ) → before ≡ with_file start name front → after ≡ with_added before name more → after ≡ with_file start name (front ++ more)
+held_all start before after name front more is added = added ∙ ap (λ told. with_added told name more) is ∙ with_added-with_file start name front more
+
+-- so it is once some of the next part was added
+pub held_some : (start before after : Option Files) (name front more rest whole : List ℕ) → before ≡ with_file start name front → front ++ (more ++ rest) ≡ whole
+    → AddsPrefix before after name more → LeavesPrefix start after name whole
+held_some start before after name front more rest whole is parts (inl same) = held start after name front (more ++ rest) whole (same ∙ is) parts
+held_some start before after name front more rest whole is parts (inr some) =
+    held start after name (front ++ take some.0 more) (drop some.0 more ++ rest) whole
+    (held_all start before after name front (take some.0 more) is some.2)
+    (append_assoc front (take some.0 more) (drop some.0 more ++ rest)
+    ∙ ap (λ t. front ++ t) (sym (append_assoc (take some.0 more) (drop some.0 more) rest) ∙ ap (λ t. t ++ rest) (take-append-drop some.0 more))
+    ∙ parts)
+
+-- the text of the lines before the tree
+abbrev pub head_text : Instance → Certificate → List ℕ
+head_text I cert = text_of_lines (head_lines I cert)
+
+-- the lines before the tree, added one behind another
+pub head_added : {T E : Type 0} (r : Result T E) (I : Instance) (cert : Certificate) (plan : Option Plan) (old a b c d new : List ℕ)
+    → a ≡ (old ++ spaced (header_words I)) ++ 10 ∷ []
+    → b ≡ (a ++ sizes_line I) ++ 10 ∷ []
+    → c ≡ b ++ text_of_lines (status_lines I)
+    → d ≡ (c ++ claim_line cert.claim) ++ 10 ∷ []
+    → plan ≡ cert.plan
+    → OnOk r (new ≡ d ++ text_of_lines (plan_lines plan))
+    → OnOk r (new ≡ old ++ head_text I cert)
+head_added r I cert plan old a b c d new header sizes statuses claim same added =
+    let first : List (List ℕ) = spaced (header_words I) ∷ sizes_line I ∷ [] in
+    let from_header = one_line old a (spaced (header_words I)) header in
+    let from_sizes = more_lines old a b (spaced (header_words I) ∷ []) (sizes_line I ∷ []) from_header (one_line a b (sizes_line I) sizes) in
+    let from_statuses = more_lines old b c first (status_lines I) from_sizes statuses in
+    let from_claim = more_lines old c d (first ++ status_lines I) (claim_line cert.claim ∷ []) from_statuses (one_line c d (claim_line cert.claim) claim) in
+    OnOk-then r
+    (λ plan_added.
+    more_lines old d new ((first ++ status_lines I) ++ claim_line cert.claim ∷ []) (plan_lines plan) from_claim plan_added
+    ∙ ap (λ lines. old ++ text_of_lines (first ++ lines)) (append_assoc (status_lines I) (claim_line cert.claim ∷ []) (plan_lines plan))
+    ∙ ap (λ p. old ++ text_of_lines (first ++ (status_lines I ++ claim_line cert.claim ∷ plan_lines p))) same)
+    added
+
+-- the text of some nodes of the tree
+abbrev pub nodes_text : Certificate → List Entry → List ℕ
+nodes_text cert es = flat_map (entry_text cert.tree.sites) es
+
+module _ (I : Instance) (cert : Certificate) where
+  -- the text in its three parts
+  pub whole_text : head_text I cert ++ (nodes_text cert (flat cert.tree.root) ++ codes "end\n") ≡ certificate_text I cert
+  whole_text =
+      let nodes : List (List ℕ) = node_lines cert.tree.sites cert.tree.root in
+      ap (λ t. head_text I cert ++ (t ++ codes "end\n")) (sym (node_text cert.tree.sites cert.tree.root))
+      ∙ ap (λ t. head_text I cert ++ t) (sym (text_of_lines-append nodes (codes "end" ∷ [])))
+      ∙ sym (text_of_lines-append (head_lines I cert) (nodes ++ codes "end" ∷ []))
+      ∙ ap (λ lines. text_of_lines (spaced (header_words I) ∷ sizes_line I ∷ lines)) (append_assoc (status_lines I) (claim_line cert.claim ∷ plan_lines cert.plan) (nodes ++ codes "end" ∷ []))
+
+  -- the nodes in preorder
+  abbrev pub nodes : List Entry
+  nodes = flat cert.tree.root
+
+  -- the text before the node at a place, that of the node, and the text from a place on
+  unfoldable pub text_before : ℕ → List ℕ
+  text_before k = head_text I cert ++ nodes_text cert (take k nodes)
+
+  abbrev pub text_at : ℕ → List ℕ
+  text_at k = entry_text cert.tree.sites (get_or nodes k (End no_duals))
+
+  text_from : ℕ → List ℕ
+  text_from k = nodes_text cert (drop k nodes) ++ codes "end\n"
+
+  cut : (k : ℕ) → text_before k ++ text_from k ≡ certificate_text I cert
+  unfolding text_before text_from
+  cut k =
+      let f : Entry → List ℕ = entry_text cert.tree.sites in
+      append_assoc (head_text I cert) (nodes_text cert (take k nodes)) (text_from k)
+      ∙ ap (λ t. head_text I cert ++ t)
+      (sym (append_assoc (nodes_text cert (take k nodes)) (nodes_text cert (drop k nodes)) (codes "end\n"))
+      ∙ ap (λ t. t ++ codes "end\n") (sym (flat_map-append f (take k nodes) (drop k nodes)) ∙ ap (flat_map f) (take-append-drop k nodes)))
+      ∙ whole_text
+
+  cut_at : (k : ℕ) → k < length nodes → text_before k ++ (text_at k ++ text_from (k + 1)) ≡ certificate_text I cert
+  unfolding text_from
+  cut_at k within =
+      ap (λ t. text_before k ++ t)
+      (sym (append_assoc (text_at k) (nodes_text cert (drop (k + 1) nodes)) (codes "end\n"))
+      ∙ ap (λ es. nodes_text cert es ++ codes "end\n") (sym (drop_more nodes k (End no_duals) within)))
+      ∙ cut k
+
+  text_next : (k : ℕ) → k < length nodes → text_before k ++ text_at k ≡ text_before (k + 1)
+  unfolding text_before
+  text_next k within =
+      append_assoc (head_text I cert) (nodes_text cert (take k nodes)) (text_at k)
+      ∙ ap (λ t. head_text I cert ++ t)
+      (ap (λ t. nodes_text cert (take k nodes) ++ t) (sym (append-nil (text_at k)))
+      ∙ sym (flat_map-append (entry_text cert.tree.sites) (take k nodes) (get_or nodes k (End no_duals) ∷ []))
+      ∙ ap (nodes_text cert) (sym (take_more nodes k (End no_duals) within)))
+
+  cut_behind : (k : ℕ) → length nodes ≤ k → text_before k ++ codes "end\n" ≡ certificate_text I cert
+  unfolding text_from
+  cut_behind k past = ap (λ es. text_before k ++ (nodes_text cert es ++ codes "end\n")) (sym (drop_all k nodes past)) ∙ cut k
+
+  -- the buffer, where it was empty and the lines before the tree were added
+  pub head_alone : {empty made text : List ℕ} → text ≡ made → made ≡ empty ++ head_text I cert → empty ≡ [] → text ≡ head_text I cert
+  head_alone same is none = same ∙ is ∙ ap (λ t. t ++ head_text I cert) none
+
+  pub before_node : (start now : Option Files) (name : List ℕ) (k : ℕ) → now ≡ with_file start name (text_before k) → LeavesPrefix start now name (certificate_text I cert)
+  before_node start now name k is = held start now name (text_before k) (text_from k) (certificate_text I cert) is (cut k)
+
+  module _ (start before after : Option Files) (name text : List ℕ) where
+    -- the three parts, each once it was added in part or whole
+
+    pub head_some : before ≡ with_file start name [] → text ≡ head_text I cert → AddsPrefix before after name text → LeavesPrefix start after name (certificate_text I cert)
+    head_some is same added =
+        held_some start before after name [] text (nodes_text cert nodes ++ codes "end\n") (certificate_text I cert) is
+        (ap (λ t. t ++ (nodes_text cert nodes ++ codes "end\n")) same ∙ whole_text) added
+
+    pub head_all : before ≡ with_file start name [] → text ≡ head_text I cert → after ≡ with_added before name text → after ≡ with_file start name (text_before 0)
+    unfolding text_before
+    head_all is same added =
+        held_all start before after name [] text is added
+        ∙ ap (with_file start name) (same ∙ sym (append-nil (head_text I cert)))
+
+    module _ (k : ℕ) (within : k < length nodes) (is : before ≡ with_file start name (text_before k)) (same : text ≡ text_at k) where
+      pub node_some : AddsPrefix before after name text → LeavesPrefix start after name (certificate_text I cert)
+      node_some added =
+          held_some start before after name (text_before k) text (text_from (k + 1)) (certificate_text I cert) is
+          (ap (λ t. text_before k ++ (t ++ text_from (k + 1))) same ∙ cut_at k within) added
+
+      pub node_all : after ≡ with_added before name text → after ≡ with_file start name (text_before (k + 1))
+      node_all added =
+          held_all start before after name (text_before k) text is added
+          ∙ ap (with_file start name) (ap (λ t. text_before k ++ t) same ∙ text_next k within)
+
+  module _ (start before after : Option Files) (name : List ℕ) (k : ℕ) (past : length nodes ≤ k) (is : before ≡ with_file start name (text_before k)) where
+    pub end_some : AddsPrefix before after name (codes "end\n") → LeavesPrefix start after name (certificate_text I cert)
+    end_some added =
+        held_some start before after name (text_before k) (codes "end\n") [] (certificate_text I cert) is (cut_behind k past) added
+
+    pub end_all : after ≡ with_added before name (codes "end\n") → after ≡ with_file start name (certificate_text I cert)
+    end_all added = held_all start before after name (text_before k) (codes "end\n") is added ∙ ap (with_file start name) (cut_behind k past)

@@ -1,0 +1,9 @@
+use Rattle.certificate_text.proofs.Alike.{alike}
+use Rattle.certificate_text.proofs.Faultless.{faultless}
+use Rattle.certificate_text.proofs.laws.one_text.Goals as goal
+
+pub returns-clause-one : goal.returns-clause-one
+returns-clause-one c = alike
+
+pub returns-clause-faultless : goal.returns-clause-faultless
+returns-clause-faultless c = faultless

@@ -1,0 +1,7 @@
+use Rattle.std.proofs.Common.{◌≡◌, ◌++◌, take}
+use Rattle.std.specs.Prelude.{codes}
+use Rattle.certificate_text.specs.Written.{counted}
+use Rattle.certificate_text.proofs.print.push_open.Given as goal
+
+abbrev pub invariant-loop-k : goal.invariant-loop-k
+invariant-loop-k l = l.text.items ≡ l.fn.text.items ++ codes "open" ++ counted (take l.k l.plan.sites)

@@ -1,0 +1,5 @@
+-- The definitions that the contracts cite.
+pub mod Cert
+pub mod Form
+pub mod Read
+pub mod Written

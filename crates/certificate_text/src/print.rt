@@ -1,0 +1,256 @@
+//! The lines of a certificate, as they are printed.
+ghost use Rattle.std.specs.Prelude.{◌≡◌, ◌<◌, ◌++◌, ◌∷◌, [], OnOk, codes, map, pos, if◌then◌else◌};
+ghost use Rattle.std.specs.Option.{option_copied};
+ghost use Rattle.fixed_cost.specs.Print.{micro_text};
+ghost use Rattle.number_words.specs.Line.{spaced};
+ghost use Rattle.number_words.specs.Number.{number_text};
+ghost use Rattle.certificate_lines.specs.Text.{is_all_free, ids_where, counts_line, header_words, sizes_line, status_lines, claim_line, plan_lines, leaf_lines, priced, text_of_lines};
+ghost use Rattle.certificate_text.specs.Written.{counted, is_status, scale_line, split_lines};
+
+use branch_tree::{Duals, Node};
+use fixed_cost::print_micro;
+use instance_store::Instance;
+use location_terms::{Claim, SiteId, SiteStatus};
+use number_words::print_number;
+use plan_meaning::Plan;
+use std::alloc::AllocError;
+
+/// The first line.
+pub(crate) fn push_header(text: &mut Vec<u8>, inst: &Instance) -> Result<(), AllocError>
+    ensures { OnOk result (text.new.items ≡ text.old.items ++ spaced (header_words inst.now) ++ 10 ∷ []) }
+{
+    text.extend_from_slice(b"dualoc-certificate ")?;
+    text.extend_from_slice(version(inst))?;
+    text.extend_from_slice(b"\n")
+}
+
+fn version(inst: &Instance) -> &'static [u8]
+    ensures { result.now ≡ (if is_all_free inst.now then codes "1" else codes "2") }
+{
+    if is_all_free(inst) { b"1" } else { b"2" }
+}
+
+/// The numbers of sites and of customers.
+pub(crate) fn push_sizes(text: &mut Vec<u8>, inst: &Instance) -> Result<(), AllocError>
+    ensures { OnOk result (text.new.items ≡ text.old.items ++ sizes_line inst.now ++ 10 ∷ []) }
+{
+    text.extend_from_slice(b"sites")?;
+    push_count(text, inst.sites() as u64)?;
+    text.extend_from_slice(b" customers")?;
+    push_count(text, inst.custs() as u64)?;
+    text.extend_from_slice(b"\n")
+}
+
+/// The sites of each status, where some site has one.
+pub(crate) fn push_statuses(text: &mut Vec<u8>, inst: &Instance) -> Result<(), AllocError>
+    ensures { OnOk result (text.new.items ≡ text.old.items ++ text_of_lines (status_lines inst.now)) }
+{
+    if is_all_free(inst) {
+        return Ok(());
+    }
+    push_status(text, inst, b"must-open", SiteStatus::MustOpen)?;
+    push_status(text, inst, b"must-closed", SiteStatus::MustClose)
+}
+
+fn push_status(
+    text: &mut Vec<u8>,
+    inst: &Instance,
+    word: &[u8],
+    status: SiteStatus,
+) -> Result<(), AllocError>
+    ensures { OnOk result (text.new.items ≡ text.old.items ++ counts_line word.now (ids_where (is_status status) inst.now) ++ 10 ∷ []) }
+{
+    text.extend_from_slice(word)?;
+    for i in 0..inst.sites() {
+        if is_status(inst.status(i), status) {
+            push_count(text, u64::from(inst.site_id(i).number()))?;
+        }
+    }
+    text.extend_from_slice(b"\n")
+}
+
+fn is_all_free(inst: &Instance) -> bool
+    ensures { result ≡ is_all_free inst.now }
+{
+    for i in 0..inst.sites() {
+        if !is_status(inst.status(i), SiteStatus::Free) {
+            return false;
+        }
+    }
+    true
+}
+
+fn is_status(given: SiteStatus, wanted: SiteStatus) -> bool
+    ensures { result ≡ is_status wanted given }
+{
+    match wanted {
+        SiteStatus::Free => matches!(given, SiteStatus::Free),
+        SiteStatus::MustOpen => matches!(given, SiteStatus::MustOpen),
+        SiteStatus::MustClose => matches!(given, SiteStatus::MustClose),
+    }
+}
+
+/// The claim.
+pub(crate) fn push_claim(text: &mut Vec<u8>, claim: &Claim) -> Result<(), AllocError>
+    ensures { OnOk result (text.new.items ≡ text.old.items ++ claim_line claim.now ++ 10 ∷ []) }
+{
+    match claim {
+        Claim::Optimal(cost) => {
+            text.extend_from_slice(b"claim optimal")?;
+            push_cost(text, *cost)?;
+        }
+        Claim::Infeasible => text.extend_from_slice(b"claim infeasible")?,
+        Claim::Bracket { low, high: None } => {
+            text.extend_from_slice(b"claim bracket")?;
+            push_cost(text, *low)?;
+            text.extend_from_slice(b" none")?;
+        }
+        Claim::Bracket {
+            low,
+            high: Some(high),
+        } => {
+            text.extend_from_slice(b"claim bracket")?;
+            push_cost(text, *low)?;
+            push_cost(text, *high)?;
+        }
+    }
+    text.extend_from_slice(b"\n")
+}
+
+/// The plan, if there is one.
+pub(crate) fn push_plan(text: &mut Vec<u8>, plan: Option<&Plan>) -> Result<(), AllocError>
+    ensures { OnOk result (text.new.items ≡ text.old.items ++ text_of_lines (plan_lines (option_copied plan.entry))) }
+{
+    match plan {
+        None => Ok(()),
+        Some(plan) => {
+            push_open(text, plan)?;
+            push_serve(text, plan)
+        }
+    }
+}
+
+// The open sites, in their order.
+fn push_open(text: &mut Vec<u8>, plan: &Plan) -> Result<(), AllocError>
+    ensures { OnOk result (text.new.items ≡ text.old.items ++ counts_line (codes "open") plan.now.sites ++ 10 ∷ []) }
+{
+    text.extend_from_slice(b"open")?;
+    for k in 0..plan.site_count() {
+        push_count(text, u64::from(plan.site(k).number()))?;
+    }
+    text.extend_from_slice(b"\n")
+}
+
+// The site that serves each customer, in the order of the customers.
+fn push_serve(text: &mut Vec<u8>, plan: &Plan) -> Result<(), AllocError>
+    ensures { OnOk result (text.new.items ≡ text.old.items ++ counts_line (codes "serve") (map (λ v. v.1) plan.now.serves) ++ 10 ∷ []) }
+{
+    text.extend_from_slice(b"serve")?;
+    for k in 0..plan.serve_count() {
+        push_count(text, u64::from(plan.serve(k).1.number()))?;
+    }
+    text.extend_from_slice(b"\n")
+}
+
+/// A split. A leaf has no line here.
+pub(crate) fn push_split(text: &mut Vec<u8>, node: Node) -> Result<(), AllocError>
+    ensures { OnOk result (text.new.items ≡ text.old.items ++ text_of_lines (split_lines node)) }
+{
+    match node {
+        Node::Leaf => Ok(()),
+        Node::Site(site) => {
+            text.extend_from_slice(b"site")?;
+            push_count(text, u64::from(site.number()))?;
+            text.extend_from_slice(b"\n")
+        }
+        Node::Lane(site, cust) => {
+            text.extend_from_slice(b"lane")?;
+            push_count(text, u64::from(site.number()))?;
+            push_count(text, u64::from(cust.number()))?;
+            text.extend_from_slice(b"\n")
+        }
+    }
+}
+
+/// A leaf, whose prices of capacities are those of these sites.
+pub(crate) fn push_leaf(
+    text: &mut Vec<u8>,
+    sites: &[SiteId],
+    duals: &Duals,
+) -> Result<(), AllocError>
+    ensures { OnOk result (text.new.items ≡ text.old.items ++ text_of_lines (leaf_lines sites.now duals.now)) }
+{
+    push_scale(text, duals)?;
+    push_values(text, duals.values())?;
+    push_prices(text, sites, duals.prices())
+}
+
+// The scale, and the price on the number of sites.
+fn push_scale(text: &mut Vec<u8>, duals: &Duals) -> Result<(), AllocError>
+    ensures { OnOk result (text.new.items ≡ text.old.items ++ scale_line duals.now ++ 10 ∷ []) }
+{
+    text.extend_from_slice(b"leaf")?;
+    push_count(text, u64::from(duals.q()))?;
+    push_number(text, duals.nu())?;
+    text.extend_from_slice(b"\n")
+}
+
+// The duals of the customers.
+fn push_values(text: &mut Vec<u8>, values: &[i128]) -> Result<(), AllocError>
+    ensures { OnOk result (text.new.items ≡ text.old.items ++ spaced (codes "v" ∷ map number_text values.now) ++ 10 ∷ []) }
+{
+    text.extend_from_slice(b"v")?;
+    for value in values {
+        push_number(text, *value)?;
+    }
+    text.extend_from_slice(b"\n")
+}
+
+// The prices of capacities that aren't 0, each behind its site.
+fn push_prices(text: &mut Vec<u8>, sites: &[SiteId], prices: &[u64]) -> Result<(), AllocError>
+    ensures { OnOk result (text.new.items ≡ text.old.items ++ counts_line (codes "u") (priced sites.now prices.now) ++ 10 ∷ []) }
+{
+    text.extend_from_slice(b"u")?;
+    for k in 0..sites.len().min(prices.len()) {
+        push_price(text, sites[k], prices[k])?;
+    }
+    text.extend_from_slice(b"\n")
+}
+
+#[tactic(auto, using(crate::proofs::Rows::no_price, crate::proofs::Rows::one_price))]
+fn push_price(text: &mut Vec<u8>, site: SiteId, price: u64) -> Result<(), AllocError>
+    ensures { OnOk result (text.new.items ≡ text.old.items ++ counted (priced (site ∷ []) (price ∷ []))) }
+{
+    if price == 0 {
+        return Ok(());
+    }
+    push_count(text, u64::from(site.number()))?;
+    push_count(text, price)
+}
+
+// A space, and a number that isn't below 0.
+fn push_count(text: &mut Vec<u8>, n: u64) -> Result<(), AllocError>
+    ensures { OnOk result (text.new.items ≡ text.old.items ++ 32 ∷ number_text (pos n)) }
+{
+    push_number(text, i128::from(n))
+}
+
+// A space and a number.
+fn push_number(text: &mut Vec<u8>, value: i128) -> Result<(), AllocError>
+    ensures { OnOk result (text.new.items ≡ text.old.items ++ 32 ∷ number_text value) }
+{
+    let mut buffer = [0; 40];
+    let len = print_number(value, &mut buffer);
+    text.extend_from_slice(b" ")?;
+    text.extend_from_slice(&buffer[..len])
+}
+
+// A space, and millionths in units with six decimals.
+fn push_cost(text: &mut Vec<u8>, micro: u64) -> Result<(), AllocError>
+    ensures { OnOk result (text.new.items ≡ text.old.items ++ 32 ∷ micro_text micro) }
+{
+    let mut buffer = [0; 24];
+    let len = print_micro(micro, &mut buffer);
+    text.extend_from_slice(b" ")?;
+    text.extend_from_slice(&buffer[..len])
+}

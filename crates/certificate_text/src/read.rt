@@ -1,0 +1,74 @@
+//! A certificate read back from a file.
+ghost use Rattle.std.specs.Prelude.{◌≡◌, ℕ, IfOk, IsErrOf};
+ghost use Rattle.shelf_port.specs.Files.{HasFile, Rose, NeverFalls};
+ghost use Rattle.certificate_lines.specs.declared.kind.CertKind.{CertKind as Kind};
+ghost use Rattle.certificate_lines.specs.Text.{certificate_text};
+ghost use Rattle.certificate_lines.specs.Follow.{HasText};
+ghost use Rattle.certificate_text.specs.Cert.{certificate_of};
+ghost use Rattle.certificate_text.specs.Form.{HasFault, PassesLimit};
+ghost use Rattle.certificate_text.specs.Read.{unread_fault};
+
+use crate::Certificate;
+use crate::reading::Reading;
+use certificate_lines::{CertFault, MAX_CERTIFICATE_BYTES};
+use instance_store::Instance;
+use shelf_lines::{LineFault, LineReader};
+use shelf_port::Shelf;
+use std::alloc::Global;
+
+/// The certificate whose text the named file is, where it is one of the instance. Only its form is
+/// looked at, and not whether it shows its claim. The file is read in pieces, and besides the
+/// certificate one piece and one line of it are held.
+///
+/// `Text` has the first fault of the text; `TooLong` comes where there is none in the first
+/// `MAX_CERTIFICATE_BYTES` bytes and more follow; `ReadFailed` where a read failed, as on a name without
+/// a file; `NoMemory` where there was none. The files are as before in each case.
+pub fn read_cert<H: Shelf>(
+    alloc: Global,
+    shelf: &mut H,
+    name: &str,
+    inst: &Instance,
+) -> Result<Certificate, CertFault>
+    ensures ok { IfOk result (λ cert. HasFile (H.files shelf.old) name.now
+        (λ bytes. bytes ≡ certificate_text inst.now (certificate_of cert))) }
+    ensures has_text { IfOk result (λ cert. HasText inst.now (certificate_of cert)) }
+    ensures fault { (kind : Kind) (line : ℕ) → result ≡ Err (CertFault.Text kind line) →
+        HasFile (H.files shelf.old) name.now
+        (λ bytes. HasFault MAX_CERTIFICATE_BYTES inst.now bytes kind line) }
+    ensures too_long { IsErrOf result CertFault.TooLong →
+        HasFile (H.files shelf.old) name.now (PassesLimit MAX_CERTIFICATE_BYTES inst.now) }
+    ensures failed { IsErrOf result CertFault.ReadFailed →
+        Rose (H.read_faults shelf.old name.now) (H.read_faults shelf.new name.now) }
+
+    ensures unchanged { H.files shelf.new ≡ H.files shelf.old }
+    ensures reads { NeverFalls (H.read_faults shelf.old) (H.read_faults shelf.new) }
+    ensures writes { NeverFalls (H.write_faults shelf.old) (H.write_faults shelf.new) }
+{
+    let _valid = inst.sites();
+    let mut reader = LineReader::new(alloc, MAX_CERTIFICATE_BYTES);
+    let Ok(mut reading) = Reading::start(alloc, inst) else {
+        return Err(CertFault::NoMemory);
+    };
+    'lines: loop {
+        if let Some(claim) = reading.claim() {
+            match reader.peek(shelf, name) {
+                Ok(ahead) => return reading.finish(claim, ahead),
+                Err(fault) => return Err(unread(fault)),
+            }
+        }
+        match reader.next(shelf, name) {
+            Ok(next) => reading = reading.step(alloc, inst, next, reader.line())?,
+            Err(fault) => return Err(unread(fault)),
+        }
+    }
+}
+
+// What a refusal of one line of the file means.
+fn unread(fault: LineFault) -> CertFault
+    ensures { result ≡ unread_fault fault }
+{
+    match fault {
+        LineFault::Failed => CertFault::ReadFailed,
+        LineFault::NoMemory => CertFault::NoMemory,
+    }
+}
