@@ -1,0 +1,9 @@
+pub mod Exits
+pub mod Followed
+pub mod Judged
+pub mod Lines
+pub mod Meaning
+pub mod Passed
+pub mod Printed
+pub mod Rest
+pub mod Within

@@ -1,0 +1,32 @@
+-- What speaks against a plan or a leaf that a certificate shows, and when nothing does.
+use Rattle.std.specs.Prelude.{◌≡◌, ◌≢◌, ℕ, Option, None, Some}
+use Rattle.location_terms.specs.declared.claim.Claim.{Claim}
+use Rattle.location_terms.specs.declared.claim.Claim.TheVariants.{Optimal, Infeasible, Bracket}
+use Rattle.location_terms.specs.Instance.{Instance}
+use Rattle.location_terms.specs.Plan.{IsFeasible, cost_of}
+use Rattle.location_terms.specs.Bound.{bound_of}
+use Rattle.location_terms.specs.Fit.{BoundCloses}
+use Rattle.plan_meaning.specs.PlanFault.{IsFirstFault}
+use Rattle.certificate_lines.specs.Due.{Shown, PlanShown, LeafShown}
+use Rattle.certificate_lines.specs.Follow.{cost_claimed}
+use Rattle.certificate_check.specs.declared.verdict.Why.{Why}
+use Rattle.certificate_check.specs.declared.verdict.Why.TheVariants.{PlanRefused, CostDiffers, LeafOpen}
+
+-- against what each leaf is to close
+abbrev pub target_of : Claim → Option ℕ
+target_of (Optimal cost) = Some cost
+target_of Infeasible = None
+target_of (Bracket low high) = Some low
+
+-- this speaks against what is shown
+abbrev pub IsAgainst : Instance → Shown → Why → Type 0
+IsAgainst I (PlanShown claim P) (PlanRefused fault) = IsFirstFault I P fault
+IsAgainst I (PlanShown claim P) (CostDiffers found) = IsFeasible I P × (cost_of I P ≡ found) × (Some found ≢ cost_claimed claim)
+IsAgainst I (LeafShown claim path d) (LeafOpen bound q) = (bound ≡ bound_of I path d) × (q ≡ d.q) × ¬ BoundCloses bound q (target_of claim)
+IsAgainst I shown why = ⊥
+
+-- nothing speaks against what is shown: the plan is feasible and costs what is claimed, the leaf closes
+abbrev pub Stands : Instance → Shown → Type 0
+Stands I (PlanShown claim P) = IsFeasible I P × (Some (cost_of I P) ≡ cost_claimed claim)
+Stands I (LeafShown claim path d) = BoundCloses (bound_of I path d) d.q (target_of claim)
+Stands I shown = Unit {0}

@@ -1,0 +1,77 @@
+// What speaks against a plan or a leaf.
+ghost use Rattle.std.specs.Prelude.{◌≡◌, MatchOption};
+ghost use Rattle.location_terms.specs.Fit.{DualsFit};
+ghost use Rattle.certificate_lines.specs.Due.{PlanShown, LeafShown};
+ghost use Rattle.certificate_lines.specs.Follow.{cost_claimed};
+ghost use Rattle.certificate_lines.specs.Form.{shown_of, IsSound};
+ghost use Rattle.certificate_check.specs.Judgement.{target_of, IsAgainst, Stands};
+
+use crate::Why;
+use branch_tree::{Duals, Path};
+use certificate_lines::Shown;
+use dual_value::{bound, closes};
+use instance_store::Instance;
+use location_terms::Claim;
+use plan_meaning::{Plan, judge};
+
+// What speaks against what a line shows, if anything does.
+pub(crate) fn against(inst: &Instance, shown: &Shown) -> Option<Why>
+    requires { IsSound inst.now (shown_of shown.now) }
+    ensures { MatchOption result (Stands inst.now (shown_of shown.now)) (IsAgainst inst.now (shown_of shown.now)) }
+{
+    match shown {
+        Shown::Plan(claim, plan) => against_plan(inst, *claim, plan),
+        Shown::Leaf(claim, path, duals) => against_leaf(inst, *claim, path, duals),
+        Shown::Nothing | Shown::Site(_) | Shown::Lane(_, _) => None,
+    }
+}
+
+fn against_plan(inst: &Instance, claim: Claim, plan: &Plan) -> Option<Why>
+    ensures { MatchOption result (Stands inst.now (PlanShown claim plan.now)) (IsAgainst inst.now (PlanShown claim plan.now)) }
+{
+    match judge(inst, plan) {
+        Ok(found) => {
+            if Some(found) == cost_claimed(claim) {
+                None
+            } else {
+                Some(Why::CostDiffers { found })
+            }
+        }
+        Err(fault) => Some(Why::PlanRefused(fault)),
+    }
+}
+
+fn against_leaf(inst: &Instance, claim: Claim, path: &Path, duals: &Duals) -> Option<Why>
+    requires { DualsFit inst.now duals.now }
+    ensures { MatchOption result (Stands inst.now (LeafShown claim path.now duals.now)) (IsAgainst inst.now (LeafShown claim path.now duals.now)) }
+{
+    let bound = bound(inst, path, duals);
+    let q = duals.q();
+    if closes(bound, q, target(claim)) {
+        None
+    } else {
+        Some(Why::LeafOpen { bound, q })
+    }
+}
+
+// The cost that a plan of the claim is to have.
+fn cost_claimed(claim: Claim) -> Option<u64>
+    ensures { result ≡ cost_claimed claim }
+{
+    match claim {
+        Claim::Optimal(cost) => Some(cost),
+        Claim::Infeasible => None,
+        Claim::Bracket { high, .. } => high,
+    }
+}
+
+// The cost against which each leaf is to close.
+fn target(claim: Claim) -> Option<u64>
+    ensures { result ≡ target_of claim }
+{
+    match claim {
+        Claim::Optimal(cost) => Some(cost),
+        Claim::Infeasible => None,
+        Claim::Bracket { low, .. } => Some(low),
+    }
+}

@@ -1,0 +1,18 @@
+//! The checker of certificates.
+#![tactic(auto)]
+
+mod against;
+mod checker;
+mod laws;
+mod step;
+mod verdict;
+
+pub use certificate_lines::{CertFault, CertKind, MAX_CERTIFICATE_BYTES};
+pub use checker::check;
+pub use laws::verdicts;
+pub use verdict::{Verdict, Why};
+
+#[cfg(test)]
+mod status_tests;
+#[cfg(test)]
+mod tests;

@@ -1,0 +1,74 @@
+//! Certificates of instances in which something is settled of a site: the second version of the text.
+use super::*;
+use crate::tests::{example, shelf_of, text_with};
+use instance_store::{Instance, NoMemory, SiteStatus};
+use location_terms::Claim;
+use plan_meaning::PlanFault;
+use std::alloc::Global;
+use std::test::Fail;
+
+// The two sites, of which the second must be open.
+fn leased(alloc: Global) -> Result<Instance, NoMemory> {
+    let mut inst = example(alloc)?;
+    if inst.sites() == 2 {
+        inst.set_status(1, SiteStatus::MustOpen);
+    }
+    Ok(inst)
+}
+
+// A certificate with this line of sites that must be open, and these of the plan.
+fn text_of(alloc: Global, must_open: &[u8], plan: &[u8]) -> Result<Vec<u8>, Fail> {
+    let mut text = Vec::from_slice(alloc, b"dualoc-certificate 2\nsites 2 customers 3\n")?;
+    text.extend_from_slice(must_open)?;
+    text.extend_from_slice(b"\nmust-closed\nclaim optimal 26.000000\n")?;
+    text.extend_from_slice(plan)?;
+    text.extend_from_slice(b"\nleaf 1 0\nv 8000000 5000000 1000000\nu\nend\n")?;
+    Ok(text)
+}
+
+// Whether this is what the checker says of the text.
+fn says(alloc: Global, text: Vec<u8>, expected: Result<Verdict, CertFault>) -> Result<bool, Fail> {
+    let inst = leased(alloc)?;
+    let mut shelf = shelf_of(alloc, text, 65_536, 0)?;
+    Ok(check(alloc, &inst, &mut shelf, "k") == expected)
+}
+
+// Whether a certificate with this line of sites that must be open has this fault in it.
+fn has_fault(alloc: Global, must_open: &[u8], kind: CertKind) -> Result<bool, Fail> {
+    let text = text_of(alloc, must_open, b"open 1 2\nserve 1 1 2")?;
+    says(alloc, text, Err(CertFault::Text { kind, line: 3 }))
+}
+
+#[test]
+fn says_yes_where_a_site_must_be_open(rt: HostRuntime) -> Result<(), Fail> {
+    let alloc = rt.alloc();
+    let text = text_of(alloc, b"must-open 2", b"open 1 2\nserve 1 1 2")?;
+    let yes = Ok(Verdict::Yes(Claim::Optimal(26_000_000)));
+    assert!(rt; says(alloc, text, yes)?);
+    Ok(())
+}
+
+#[test]
+fn compares_the_statuses(rt: HostRuntime) -> Result<(), Fail> {
+    assert!(rt; has_fault(rt.alloc(), b"must-open", CertKind::WrongStatus)?);
+    assert!(rt; has_fault(rt.alloc(), b"must-open 7", CertKind::UnknownId)?);
+    Ok(())
+}
+
+#[test]
+fn judges_the_plan_by_the_statuses(rt: HostRuntime) -> Result<(), Fail> {
+    let alloc = rt.alloc();
+    let why = Why::PlanRefused(PlanFault::StatusBroken);
+    let text = text_of(alloc, b"must-open 2", b"open 1\nserve 1 1 1")?;
+    assert!(rt; says(alloc, text, Ok(Verdict::No { line: 7, why }))?);
+    Ok(())
+}
+
+#[test]
+fn wants_the_second_version(rt: HostRuntime) -> Result<(), Fail> {
+    let alloc = rt.alloc();
+    let kind = CertKind::BadLine;
+    let text = text_with(alloc, 0, b"")?;
+    assert!(rt; says(alloc, text, Err(CertFault::Text { kind, line: 1 }))?);
+    Ok(())
+}

@@ -1,0 +1,254 @@
+ghost use Rattle.std.specs.Prelude.{◌<◌};
+
+use super::*;
+use crate::checker::check_lines;
+use instance_store::{CustId, CustRow, Instance, LaneRow, NoMemory, SiteId, SiteRow};
+use location_terms::Claim;
+use plan_meaning::PlanFault;
+use shelf_lines::LineReader;
+use shelf_port::MemShelf;
+use std::alloc::Global;
+use std::test::Fail;
+
+// How much one read gives at most, where no test asks for less.
+const WIDE: usize = 65_536;
+
+// Two sites and three customers without demand, in millionths.
+pub(crate) fn example(alloc: Global) -> Result<Instance, NoMemory> {
+    let near = vec![in alloc; Some(1_000_000), Some(2_000_000), Some(9_000_000)]?;
+    let far = vec![in alloc; Some(8_000_000), Some(7_000_000), Some(1_000_000)]?;
+    let sites = vec![in alloc;
+        SiteRow {
+            id: SiteId::new(1),
+            fixed: 10_000_000,
+            cap: None,
+            lanes: LaneRow::from_vec(near)
+        },
+        SiteRow {
+            id: SiteId::new(2),
+            fixed: 12_000_000,
+            cap: None,
+            lanes: LaneRow::from_vec(far)
+        },
+    ]?;
+    let custs = vec![in alloc;
+        CustRow {
+            id: CustId::new(1),
+            demand: 0
+        },
+        CustRow {
+            id: CustId::new(2),
+            demand: 0
+        },
+        CustRow {
+            id: CustId::new(3),
+            demand: 0
+        },
+    ]?;
+    Instance::from_parts(alloc, 0, 3_000, 3, 4, custs, sites)
+}
+
+// The line of this number of the certificate that site 1 alone, at 22, is best.
+fn line_of(number: u64) -> &'static [u8] {
+    match number {
+        1 => b"dualoc-certificate 1",
+        2 => b"sites 2 customers 3",
+        3 => b"claim optimal 22.000000",
+        4 => b"open 1",
+        5 => b"serve 1 1 1",
+        6 => b"leaf 1 0",
+        7 => b"v 11000000 2000000 9000000",
+        8 => b"u",
+        _ => b"end",
+    }
+}
+
+// The certificate with another line of this number, if it is one from 1 to 9.
+pub(crate) fn text_with(alloc: Global, number: u64, line: &[u8]) -> Result<Vec<u8>, Fail> {
+    let mut text = Vec::new(alloc);
+    for n in 1..10 {
+        text.extend_from_slice(if n == number { line } else { line_of(n) })?;
+        text.push(b'\n')?;
+    }
+    Ok(text)
+}
+
+// A shelf with this certificate `k`, one call of which fails.
+pub(crate) fn shelf_of(
+    alloc: Global,
+    text: Vec<u8>,
+    width: usize,
+    fails: u64,
+) -> Result<MemShelf, Fail>
+    requires { 0 < width }
+{
+    let mut files = Vec::new(alloc);
+    files.push((String::from_str(alloc, "k")?, text))?;
+    Ok(MemShelf::new(alloc, files, vec![in alloc; fails]?).in_pieces(width))
+}
+
+// Whether this is what the checker says of the text.
+fn says(alloc: Global, text: Vec<u8>, expected: Result<Verdict, CertFault>) -> Result<bool, Fail> {
+    let inst = example(alloc)?;
+    let mut shelf = shelf_of(alloc, text, WIDE, 0)?;
+    Ok(check(alloc, &inst, &mut shelf, "k") == expected)
+}
+
+// Whether the certificate with this line instead of its own is refused here for this.
+fn refuses(alloc: Global, number: u64, text: &[u8], line: u64, why: Why) -> Result<bool, Fail> {
+    says(
+        alloc,
+        text_with(alloc, number, text)?,
+        Ok(Verdict::No { line, why }),
+    )
+}
+
+// Whether the certificate with this line instead of its own has this fault there.
+fn has_fault(alloc: Global, line: u64, text: &[u8], kind: CertKind) -> Result<bool, Fail> {
+    says(
+        alloc,
+        text_with(alloc, line, text)?,
+        Err(CertFault::Text { kind, line }),
+    )
+}
+
+// Whether the certificate, with this behind it, has this fault in its tenth line.
+fn trails(alloc: Global, more: &[u8]) -> Result<bool, Fail> {
+    let mut text = text_with(alloc, 0, b"")?;
+    text.extend_from_slice(more)?;
+    let kind = CertKind::Trailing;
+    says(alloc, text, Err(CertFault::Text { kind, line: 10 }))
+}
+
+fn yes() -> Result<Verdict, CertFault> {
+    Ok(Verdict::Yes(Claim::Optimal(22_000_000)))
+}
+
+#[test]
+fn says_yes(rt: HostRuntime) -> Result<(), Fail> {
+    let alloc = rt.alloc();
+    assert!(rt; says(alloc, text_with(alloc, 0, b"")?, yes())?);
+    Ok(())
+}
+
+#[test]
+fn says_yes_in_pieces(rt: HostRuntime) -> Result<(), Fail> {
+    let alloc = rt.alloc();
+    let inst = example(alloc)?;
+    let mut shelf = shelf_of(alloc, text_with(alloc, 0, b"")?, 1, 0)?;
+    assert!(rt; check(alloc, &inst, &mut shelf, "k") == yes());
+    Ok(())
+}
+
+#[test]
+fn refuses_a_leaf_that_does_not_close(rt: HostRuntime) -> Result<(), Fail> {
+    let bound = 21_000_000;
+    let line = b"v 11000000 2000000 8000000";
+    assert!(rt; refuses(rt.alloc(), 7, line, 6, Why::LeafOpen { bound, q: 1 })?);
+    Ok(())
+}
+
+#[test]
+fn refuses_another_cost(rt: HostRuntime) -> Result<(), Fail> {
+    let found = 22_000_000;
+    let line = b"claim optimal 21.000000";
+    assert!(rt; refuses(rt.alloc(), 3, line, 5, Why::CostDiffers { found })?);
+    Ok(())
+}
+
+#[test]
+fn refuses_a_plan(rt: HostRuntime) -> Result<(), Fail> {
+    let why = Why::PlanRefused(PlanFault::ServedByClosed);
+    assert!(rt; refuses(rt.alloc(), 5, b"serve 1 1 2", 5, why)?);
+    Ok(())
+}
+
+#[test]
+fn finds_words_that_are_not_due(rt: HostRuntime) -> Result<(), Fail> {
+    assert!(rt; has_fault(rt.alloc(), 1, b"dualoc-certificate 3", CertKind::BadLine)?);
+    assert!(rt; has_fault(rt.alloc(), 8, b"end", CertKind::BadLine)?);
+    Ok(())
+}
+
+#[test]
+fn finds_another_spelling(rt: HostRuntime) -> Result<(), Fail> {
+    assert!(rt; has_fault(rt.alloc(), 5, b"serve 1 01 1", CertKind::NotCanonical)?);
+    assert!(rt; has_fault(rt.alloc(), 9, b"end ", CertKind::NotCanonical)?);
+    Ok(())
+}
+
+#[test]
+fn finds_numbers_outside_their_limits(rt: HostRuntime) -> Result<(), Fail> {
+    assert!(rt; has_fault(rt.alloc(), 6, b"leaf 1000001 0", CertKind::OutOfRange)?);
+    assert!(rt; has_fault(rt.alloc(), 8, b"u 1 5", CertKind::OutOfRange)?);
+    Ok(())
+}
+
+// The ids rise, though both are longer than any number that is held.
+#[test]
+fn tells_huge_numbers_apart(rt: HostRuntime) -> Result<(), Fail> {
+    let line = b"open 10000000000000000000000000000000 20000000000000000000000000000000";
+    assert!(rt; has_fault(rt.alloc(), 4, line, CertKind::OutOfRange)?);
+    Ok(())
+}
+
+#[test]
+fn finds_what_the_instance_lacks(rt: HostRuntime) -> Result<(), Fail> {
+    assert!(rt; has_fault(rt.alloc(), 2, b"sites 2 customers 4", CertKind::WrongSizes)?);
+    assert!(rt; has_fault(rt.alloc(), 4, b"open 1 3", CertKind::UnknownId)?);
+    Ok(())
+}
+
+#[test]
+fn finds_an_early_end(rt: HostRuntime) -> Result<(), Fail> {
+    let alloc = rt.alloc();
+    let kind = CertKind::Ended;
+    assert!(rt;
+        says(
+            alloc,
+            Vec::new(alloc),
+            Err(CertFault::Text { kind, line: 1 })
+        )?
+    );
+    let first = line_of(1).to_vec(alloc)?;
+    assert!(rt; says(alloc, first, Err(CertFault::Text { kind, line: 1 }))?);
+    Ok(())
+}
+
+#[test]
+fn finds_what_follows(rt: HostRuntime) -> Result<(), Fail> {
+    assert!(rt; trails(rt.alloc(), b"x")?);
+    assert!(rt; trails(rt.alloc(), b"\n")?);
+    Ok(())
+}
+
+#[test]
+fn tells_a_failing_read(rt: HostRuntime) -> Result<(), Fail> {
+    let alloc = rt.alloc();
+    let inst = example(alloc)?;
+    let mut shelf = shelf_of(alloc, text_with(alloc, 0, b"")?, 60, 2)?;
+    assert!(rt; check(alloc, &inst, &mut shelf, "k") == Err(CertFault::ReadFailed));
+    assert!(rt; check(alloc, &inst, &mut shelf, "other") == Err(CertFault::ReadFailed));
+    Ok(())
+}
+
+// What is said of the certificate where no more than its first bytes up to the limit are looked at.
+fn says_within(
+    alloc: Global,
+    limit: u64,
+    expected: Result<Verdict, CertFault>,
+) -> Result<bool, Fail>
+    requires { limit < 1000 }
+{
+    let inst = example(alloc)?;
+    let mut shelf = shelf_of(alloc, text_with(alloc, 0, b"")?, WIDE, 0)?;
+    let mut reader = LineReader::new(alloc, limit);
+    Ok(check_lines(alloc, &inst, &mut reader, &mut shelf, "k") == expected)
+}
+
+#[test]
+fn stops_at_the_limit(rt: HostRuntime) -> Result<(), Fail> {
+    assert!(rt; says_within(rt.alloc(), 126, yes())?);
+    assert!(rt; says_within(rt.alloc(), 125, Err(CertFault::TooLong))?);
+    Ok(())
+}
