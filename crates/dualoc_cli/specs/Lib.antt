@@ -1,2 +1,5 @@
-pub mod Status
+pub mod Command
 pub mod Due
+pub mod Said
+pub mod Status
+pub mod Step

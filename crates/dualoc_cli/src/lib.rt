@@ -5,6 +5,7 @@ mod answer;
 mod limits;
 mod program;
 mod status;
+mod verdict;
 mod words;
 
 pub use limits::MAX_INSTANCE_BYTES;

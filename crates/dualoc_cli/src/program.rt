@@ -6,7 +6,7 @@ ghost use Rattle.dualoc_cli.specs.Due.{setting_of, Runs, IsDueFirst, Prints};
 use crate::answer::{Due, answer};
 use crate::limits::MAX_INSTANCE_BYTES;
 use crate::status::Status;
-use crate::words::short_form;
+use crate::words::Command;
 use instance_store::NoMemory;
 use shelf_port::{ReadWhole, Shelf, Sink, SinkFault, Source, read_whole, write_whole};
 use std::alloc::Global;
@@ -39,11 +39,11 @@ fn due_of<H: Shelf>(alloc: Global, words: &[String], shelf: &mut H) -> Result<Du
     ensures due { IfOk result (λ due. IsDueFirst (setting_of (map string_bytes words.now) (H.files shelf.old) (H.read_faults shelf.old) (H.read_faults shelf.new)) due.status due.text.items) }
     ensures files { H.files shelf.new ≡ H.files shelf.old }
 {
-    let Some(file) = short_form(words) else {
+    let Some(command) = Command::of(words) else {
         return Due::of(alloc, Status::Usage, b"usage\n");
     };
-    match read_whole(alloc, shelf, file, MAX_INSTANCE_BYTES) {
-        Ok(bytes) => answer(alloc, &bytes),
+    match read_whole(alloc, shelf, command.instance_file(), MAX_INSTANCE_BYTES) {
+        Ok(bytes) => answer(alloc, command, &bytes, shelf),
         Err(ReadWhole::Failed) => Due::of(alloc, Status::ReadFault, b"read fault\n"),
         Err(ReadWhole::TooLong) => Due::of(alloc, Status::TooLarge, b"too large instance\n"),
         Err(ReadWhole::NoMemory) => Err(NoMemory),
@@ -57,7 +57,9 @@ fn print<O: Sink>(out: &mut O, status: Status, text: &[u8]) -> Status
     match write_whole(out, text) {
         Ok(()) => status,
         Err(SinkFault::NoMemory) => Status::NoMemory,
-        Err(SinkFault::Failed) if status == Status::Done => Status::WriteFault,
+        Err(SinkFault::Failed) if status == Status::Done || status == Status::CheckNo => {
+            Status::WriteFault
+        }
         Err(SinkFault::Failed) => status,
     }
 }

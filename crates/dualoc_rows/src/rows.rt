@@ -8,9 +8,9 @@ use std::alloc::Global;
 use std::test::Fail;
 
 // How many bytes one call gives or takes at most.
-const WIDTHS: [usize; 4] = [1, 2, 7, 65_536];
+pub(crate) const WIDTHS: [usize; 4] = [1, 2, 7, 65_536];
 
-const TWO_SITES: &str = "FILE: a\n2 3 0\n1 10 1 2 9\n2 12 8 7 1\n";
+pub(crate) const TWO_SITES: &str = "FILE: a\n2 3 0\n1 10 1 2 9\n2 12 8 7 1\n";
 
 const ITS_PLAN: &str =
     "dualoc-plan 1\noptimal 22.000000\nsite 1 10.000000\nserve 1 1 1.000000\nserve 2 1 2.000000\nserve 3 1 9.000000\nend\n";
@@ -118,7 +118,7 @@ const FILES: [(&str, Status, &str); 22] = [
 ];
 
 // Words that are no command, or name a file that isn't there.
-const WORDS: [(&[&str], Status, &str); 8] = [
+const WORDS: [(&[&str], Status, &str); 13] = [
     (&[], Status::Usage, "usage\n"),
     (&["solve"], Status::Usage, "usage\n"),
     (&["solve", "ufl"], Status::Usage, "usage\n"),
@@ -127,6 +127,19 @@ const WORDS: [(&[&str], Status, &str); 8] = [
     (&["Solve", "ufl", "a"], Status::Usage, "usage\n"),
     (&["solve", "ufl", "a", "b"], Status::Usage, "usage\n"),
     (&["solve", "ufl", "b"], Status::ReadFault, "read fault\n"),
+    (&["check", "ufl", "a"], Status::Usage, "usage\n"),
+    (&["check", "ufl", "a", ""], Status::Usage, "usage\n"),
+    (&["check", "ufl", "a", "a"], Status::Usage, "usage\n"),
+    (
+        &["check", "ufl", "a", "k"],
+        Status::ReadFault,
+        "read fault\n",
+    ),
+    (
+        &["check", "ufl", "k", "a"],
+        Status::ReadFault,
+        "read fault\n",
+    ),
 ];
 
 const SHORT: [&str; 3] = ["solve", "ufl", "a"];

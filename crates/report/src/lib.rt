@@ -3,4 +3,4 @@
 
 mod plan;
 
-pub use plan::plan_text;
+pub use plan::{plan_text, push_claim};

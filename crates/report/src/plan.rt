@@ -37,7 +37,8 @@ pub fn plan_text(
     Ok(text)
 }
 
-fn push_claim(text: &mut Vec<u8>, claim: &Claim) -> Result<(), AllocError>
+/// Appends the line of a claim, with its costs in units with six decimals.
+pub fn push_claim(text: &mut Vec<u8>, claim: &Claim) -> Result<(), AllocError>
     ensures { OnOk result (text.new.items ≡ text.old.items ++ claim_line claim.now) }
 {
     match claim {
