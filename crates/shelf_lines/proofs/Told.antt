@@ -3,13 +3,18 @@ use Rattle.std.proofs.Common.{◌≡◌, ◌⊎◌, ℕ, List, inl, inr, refl, s
 use Rattle.std.specs.Prelude.{Option, None, Some, IsSomeAnd, ⊤}
 use Rattle.std.specs.FinMap.{get}
 use Rattle.shelf_port.specs.Files.{Files, HasFile}
-use Rattle.shelf_lines.specs.Rest.{ForFile}
+use Rattle.shelf_lines.specs.Rest.{ForFile, TellsFile}
 
 -- of a file that is told and there what P says
 pub file_has : (told : Option Files) (name : List ℕ) (P : List ℕ → Type 0) → HasFile told name P → ForFile told name P
 file_has told name P has files is file there =
     let found : IsSomeAnd (get files name) P = subst (λ t. HasFile t name P) is has in
     subst (λ f. IsSomeAnd f P) there found
+
+-- what holds of the file holds of the bytes that are told
+pub of_bytes : (told : Option Files) (name bytes : List ℕ) (P : List ℕ → Type 0) → TellsFile told name bytes → HasFile told name P → P bytes
+of_bytes None name bytes P is has = absurd is
+of_bytes (Some files) name bytes P is has = subst (λ file. IsSomeAnd file P) is has
 
 -- what a file that is told and there has besides, once it has P
 pub has_more : (told : Option Files) (name : List ℕ) (P Q : List ℕ → Type 0)

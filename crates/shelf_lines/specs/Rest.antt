@@ -1,5 +1,5 @@
 -- What a reader of lines has left of a file.
-use Rattle.std.specs.Prelude.{◌≡◌, ℕ, ◌+◌, ◌-◌, ◌<◌, ◌≤◌, List, [], ◌++◌, length, take, drop, Option}
+use Rattle.std.specs.Prelude.{◌≡◌, ℕ, ◌+◌, ◌-◌, ◌<◌, ◌≤◌, List, [], ◌++◌, length, take, drop, Option, Some, IsSomeAnd}
 use Rattle.std.specs.Option.{ForSome}
 use Rattle.std.specs.List.{before_first, after_first}
 use Rattle.std.specs.FinMap.{get}
@@ -28,6 +28,10 @@ unread r = (r.limit - r.at) + length r.ahead
 -- this holds of the bytes of the named file, where the files are told and it is there
 abbrev pub ForFile : Option Files → List ℕ → (List ℕ → Type 0) → Type 0
 ForFile told name P = ForSome told (λ files. ForSome (get files name) P)
+
+-- the files are told, and the named one is there and holds exactly these bytes
+abbrev pub TellsFile : Option Files → List ℕ → List ℕ → Type 0
+TellsFile told name bytes = IsSomeAnd told (λ files. get files name ≡ Some bytes)
 
 -- nothing is left, and all of the file lies within the limit
 pub record IsAtEnd (r : LineState) (file : List ℕ) : Type 0 where
