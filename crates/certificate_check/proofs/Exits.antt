@@ -1,10 +1,10 @@
 -- How the answer on a file follows where the checker stops, and that the file is there.
-use Rattle.std.proofs.Common.{◌≡◌, ◌⊎◌, ℕ, ◌+◌, List, [], ◌∷◌, ◌++◌, sym, ap, ◌∙◌, subst, inl, inr, Ok, Err}
+use Rattle.std.proofs.Common.{◌≡◌, ◌⊎◌, ℕ, ◌+◌, ◌≤◌, length, List, [], ◌∷◌, ◌++◌, sym, ap, ◌∙◌, subst, inl, inr, Ok, Err}
 use Rattle.std.specs.Prelude.{Option, None, Some, ⊤}
 use Rattle.shelf_port.specs.Files.{Files, HasFile}
 use Rattle.shelf_lines.specs.Line.{IsLine}
-use Rattle.shelf_lines.specs.Rest.{LineState, ForFile, rest_of}
-use Rattle.shelf_lines.proofs.Told.{file_has, has_more, found_there}
+use Rattle.shelf_lines.specs.Rest.{LineState, ForFile, TellsFile, rest_of}
+use Rattle.shelf_lines.proofs.Told.{file_has, has_more, found_there, of_bytes}
 use Rattle.location_terms.specs.declared.claim.Claim.{Claim}
 use Rattle.location_terms.specs.Instance.{Instance, IsValid}
 use Rattle.location_terms.specs.Certificate.{Certificate, IsAccepted}
@@ -12,12 +12,14 @@ use Rattle.certificate_lines.specs.declared.fault.CertFault.{CertFault}
 use Rattle.certificate_lines.specs.declared.fault.CertFault.TheVariants.{NoMemory}
 use Rattle.certificate_lines.specs.Due.{Due, HeaderDue, NothingDue}
 use Rattle.certificate_lines.specs.Text.{certificate_text}
+use Rattle.certificate_lines.specs.Follow.{HasSmallCosts}
 use Rattle.certificate_lines.specs.Lines.{read_line}
 use Rattle.certificate_check.specs.declared.verdict.Verdict.TheVariants.{Yes}
 use Rattle.certificate_check.specs.Verdict.{Answer, IsAnswer, IsVerdict}
 use Rattle.certificate_check.specs.Step.{Decides, GoesOn, IsAnswerFrom, IsUnread, claim_behind}
-use Rattle.certificate_check.proofs.Meaning.{yes_means}
-use Rattle.certificate_check.proofs.Within.{yes_within}
+use Rattle.certificate_check.proofs.Meaning.{yes_means, accepted_yes}
+use Rattle.certificate_check.proofs.Within.{yes_within, verdict_within}
+use Rattle.certificate_check.proofs.One.{one_answer}
 use Rattle.certificate_check.proofs.Passed.{Passed, passed_more, answers, decided, text_passed}
 
 -- a text is whole where nothing is due
@@ -118,3 +120,13 @@ yes_text I told name limit claim answer valid is_yes (inr has) =
 pub at_limit : (I : Instance) (told : Option Files) (name : List ℕ) (now limit : ℕ) (answer : Answer) → now ≡ limit
     → IsUnread answer ⊎ HasFile told name (λ bytes. IsAnswer now I bytes answer) → IsUnread answer ⊎ HasFile told name (λ bytes. IsAnswer limit I bytes answer)
 at_limit I told name now limit answer same says = subst (λ n. IsUnread answer ⊎ HasFile told name (λ bytes. IsAnswer n I bytes answer)) same says
+
+-- the text of an accepted certificate is answered with yes
+pub text_yes : (I : Instance) (told : Option Files) (name : List ℕ) (limit : ℕ) (answer : Answer) → IsValid I
+    → IsUnread answer ⊎ HasFile told name (λ bytes. IsAnswer limit I bytes answer)
+    → (cert : Certificate) → IsAccepted I cert → HasSmallCosts cert.claim → length (certificate_text I cert) ≤ limit → TellsFile told name (certificate_text I cert)
+    → IsUnread answer ⊎ (answer ≡ Ok (Yes cert.claim))
+text_yes I told name limit answer valid (inl unread) cert accepted small within is = inl unread
+text_yes I told name limit answer valid (inr has) cert accepted small within is =
+    let text = certificate_text I cert in
+    inr (one_answer limit I text answer (Ok (Yes cert.claim)) (of_bytes told name text (λ bytes. IsAnswer limit I bytes answer) is has) (verdict_within limit I text (Ok (Yes cert.claim)) within (accepted_yes I cert valid accepted small)))

@@ -3,7 +3,7 @@ pub mod Followed
 pub mod Judged
 pub mod Lines
 pub mod Meaning
+pub mod One
 pub mod Passed
-pub mod Printed
 pub mod Rest
 pub mod Within

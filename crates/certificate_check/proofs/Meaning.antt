@@ -1,5 +1,5 @@
--- A yes says that the bytes are the text of an accepted certificate; and of such a text there is no other verdict.
-use Rattle.std.proofs.Common.{◌≡◌, ℕ, List, [], ◌∷◌, ◌++◌, refl, ap, ◌∙◌, subst, Ok, Option}
+-- A yes says that the bytes are the text of an accepted certificate; and of such a text the verdict is yes.
+use Rattle.std.proofs.Common.{◌≡◌, ℕ, List, [], ◌∷◌, ◌++◌, ◌+◌, length, refl, sym, ap, ◌∙◌, subst, Ok, Option}
 use Rattle.std.specs.Prelude.{All}
 use Rattle.std.specs.List.{slice_split}
 use Rattle.std.proofs.lemmas.List.{append-nil}
@@ -17,11 +17,11 @@ use Rattle.certificate_lines.proofs.ReadBack.{read_back}
 use Rattle.certificate_lines.proofs.Spelled.{spelled}
 use Rattle.certificate_check.specs.declared.verdict.Verdict.TheVariants.{Yes}
 use Rattle.certificate_check.specs.Judgement.{Stands}
-use Rattle.certificate_check.specs.Verdict.{Answer, Undecided, at_rest, LeadsTo, at_end, IsVerdict}
+use Rattle.certificate_check.specs.Verdict.{Undecided, at_rest, LeadsTo, IsVerdict}
 use Rattle.certificate_check.proofs.Within.{yes_at_end}
-use Rattle.certificate_check.proofs.Followed.{followed, determined}
+use Rattle.certificate_check.proofs.Followed.{followed, leads_behind}
 use Rattle.certificate_check.proofs.Judged.{accepted_from, accepted_stands, has_text}
-use Rattle.certificate_check.proofs.Printed.{text_of_pieces, pieces_of_text, certificate_are_lines}
+use Rattle.certificate_lines.proofs.Printed.{text_of_pieces, pieces_of_text, certificate_are_lines}
 
 -- nothing is behind the last line feed, where nothing is due there and no fault is found
 none_left : (claim : Claim) (n : ℕ) (rest : List ℕ) → at_rest (NothingDue claim) n rest ≡ Undecided (NothingDue claim) n → rest ≡ []
@@ -45,10 +45,8 @@ yes_holds I bytes claim valid verdict =
     let cert = means.0 in
     (cert.plan, subst (λ c. ClaimHolds I c cert.plan) means.3 (claim_holds I valid cert.claim cert.plan cert.tree means.2.shows))
 
-pub only_yes : (I : Instance) (cert : Certificate) (answer : Answer) → IsValid I → IsAccepted I cert → HasSmallCosts cert.claim → IsVerdict I (certificate_text I cert) answer → answer ≡ Ok (Yes cert.claim)
-only_yes I cert answer valid accepted small verdict =
+pub accepted_yes : (I : Instance) (cert : Certificate) → IsValid I → IsAccepted I cert → HasSmallCosts cert.claim → IsVerdict I (certificate_text I cert) (Ok (Yes cert.claim))
+accepted_yes I cert valid accepted small =
     let lines = certificate_lines I cert in
-    let leads : LeadsTo I HeaderDue 1 (lines ++ [] ∷ []) verdict.0 =
-    subst (λ pieces. LeadsTo I HeaderDue 1 pieces verdict.0) (pieces_of_text lines (certificate_are_lines I cert)) verdict.1 in
-    let ends = determined I HeaderDue 1 lines [] (NothingDue cert.claim) (told_by cert) verdict.0 (read_back I cert valid (has_text I cert accepted small)) (accepted_stands I cert accepted) leads in
-    verdict.2 ∙ ap at_end ends.1
+    let leads = leads_behind I HeaderDue 1 lines (NothingDue cert.claim) (told_by cert) (read_back I cert valid (has_text I cert accepted small)) (accepted_stands I cert accepted) in
+    (Undecided (NothingDue cert.claim) (1 + length lines), subst (λ pieces. LeadsTo I HeaderDue 1 pieces (Undecided (NothingDue cert.claim) (1 + length lines))) (sym (pieces_of_text lines (certificate_are_lines I cert))) leads, refl)

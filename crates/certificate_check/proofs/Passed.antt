@@ -6,7 +6,7 @@ use Rattle.std.proofs.lemmas.List.Elements.{All-append, All-cons, All-nil}
 use Rattle.shelf_port.specs.Files.{Files}
 use Rattle.shelf_lines.specs.Line.{is_line_feed, IsLine}
 use Rattle.shelf_lines.specs.Rest.{LineState, ForFile, rest_of, start_of}
-use Rattle.shelf_lines.proofs.Split.{lines_and_rest}
+use Rattle.shelf_lines.proofs.Split.{lines_and_rest, some_piece}
 use Rattle.location_terms.specs.declared.claim.Claim.{Claim}
 use Rattle.location_terms.specs.Instance.{Instance}
 use Rattle.certificate_lines.specs.Due.{Due, HeaderDue, NothingDue}
@@ -15,8 +15,8 @@ use Rattle.certificate_lines.specs.Text.{text_of_lines}
 use Rattle.certificate_check.specs.declared.verdict.Verdict.TheVariants.{Yes}
 use Rattle.certificate_check.specs.Verdict.{Answer, Outcome, Decided, Undecided, TakesLine, LeadsTo, IsAnswer, IsVerdict}
 use Rattle.certificate_check.specs.Step.{Decides, GoesOn, IsAnswerFrom}
-use Rattle.certificate_check.proofs.Within.{leads_on, some_piece}
-use Rattle.certificate_check.proofs.Printed.{pieces_of_text}
+use Rattle.certificate_check.proofs.Within.{leads_on, line_leads}
+use Rattle.certificate_lines.proofs.Printed.{pieces_of_text}
 use Rattle.certificate_check.proofs.Rest.{same_anyway}
 
 -- where the reader stands, with this due in the line of this number, behind lines that lead there
@@ -38,12 +38,6 @@ passed_none I told name limit reader start = record {
 -- the pieces of what is left, where it begins with a line
 line_first : (text before after : List ℕ) → IsLine text → before ≡ text ++ 10 ∷ after → slice_split is_line_feed before ≡ text ∷ slice_split is_line_feed after
 line_first text before after is_line is = ap (slice_split is_line_feed) is ∙ lines_and_rest text after is_line
-
--- a line that goes on leads to what its rest leads to
-line_leads : (I : Instance) (due next : Due) (line : ℕ) (text : List ℕ) (pieces : List (List ℕ)) (outcome : Outcome) → GoesOn I (read_line I due text) next → LeadsTo I next (line + 1) pieces outcome → LeadsTo I due line (text ∷ pieces) outcome
-line_leads I due next line text [] outcome on leads = absurd leads
-line_leads I due next line text (piece ∷ pieces) outcome on leads =
-    subst (λ (said : Said). TakesLine I line said (λ d. LeadsTo I d (line + 1) (piece ∷ pieces)) outcome) (sym on.1) (inr (on.2, leads))
 
 -- the lines with one more
 pub passed_more : (I : Instance) (told : Option Files) (name : List ℕ) (limit : ℕ) (due next : Due) (line : ℕ) (text : List ℕ) (old new : LineState)

@@ -12,7 +12,8 @@ use Rattle.certificate_lines.specs.Due.{Due, NothingDue}
 use Rattle.certificate_check.specs.declared.verdict.Verdict.TheVariants.{Yes}
 use Rattle.certificate_check.specs.Verdict.{Answer, Outcome, Decided, Undecided, fault_in, at_rest, LeadsTo, at_end, past_limit}
 use Rattle.certificate_check.specs.Step.{claim_behind, IsAnswerFrom}
-use Rattle.certificate_check.proofs.Within.{leads_on, some_piece, rests}
+use Rattle.shelf_lines.proofs.Split.{some_piece}
+use Rattle.certificate_check.proofs.Within.{leads_on, rests}
 
 -- the answer where the file ends within the limit
 at_end_within : (limit : ℕ) (file : List ℕ) (outcome : Outcome) → length file ≤ limit → at_end outcome ≡ (if nat_lt limit (length file) then past_limit outcome else at_end outcome)

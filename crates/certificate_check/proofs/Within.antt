@@ -1,12 +1,11 @@
 -- What the lines of a certificate lead to, a line at a time, and what an answer within a limit says of the whole.
-use Rattle.std.proofs.Common.{◌≡◌, ℕ, ◌+◌, ◌<◌, List, [], ◌∷◌, ◌++◌, length, take, refl, sym, ◌∙◌, subst, arith, Ok, Err, inl, inr, ◌⊎◌}
+use Rattle.std.proofs.Common.{◌≡◌, ℕ, ◌+◌, ◌<◌, ◌≤◌, List, [], ◌∷◌, length, take, refl, sym, ◌∙◌, subst, arith, Ok, Err, inl, inr, ◌⊎◌, false}
 use Rattle.std.specs.Prelude.{nat_lt}
 use Rattle.std.specs.List.{slice_split}
-use Rattle.std.proofs.lemmas.Bool.{cases_Bool, ltb-false}
+use Rattle.std.proofs.lemmas.Bool.{cases_Bool, ltb-false, le-ltb}
 use Rattle.std.proofs.lemmas.List.{take_all}
-use Rattle.std.proofs.lemmas.List.Splits.{length-slice_split}
 use Rattle.shelf_lines.specs.Line.{is_line_feed, IsLine}
-use Rattle.shelf_lines.proofs.Split.{lines_and_rest, one_line}
+use Rattle.shelf_lines.proofs.Split.{one_line}
 use Rattle.location_terms.specs.declared.claim.Claim.{Claim}
 use Rattle.location_terms.specs.Instance.{Instance}
 use Rattle.certificate_lines.specs.declared.kind.CertKind.{CertKind}
@@ -14,36 +13,21 @@ use Rattle.certificate_lines.specs.declared.kind.CertKind.TheVariants.{Trailing}
 use Rattle.certificate_lines.specs.Due.{Due, HeaderDue, NothingDue}
 use Rattle.certificate_lines.specs.Lines.{Said, read_line}
 use Rattle.certificate_check.specs.declared.verdict.Verdict.TheVariants.{Yes}
-use Rattle.certificate_check.specs.Verdict.{Outcome, Decided, Undecided, fault_in, at_rest, TakesLine, LeadsTo, at_end, past_limit, IsVerdict, IsAnswer}
+use Rattle.certificate_check.specs.Step.{GoesOn}
+use Rattle.certificate_check.specs.Verdict.{Answer, Outcome, Decided, Undecided, fault_in, at_rest, TakesLine, LeadsTo, at_end, past_limit, IsVerdict, IsAnswer}
 
 -- a line with pieces behind it is taken
-pub takes_line : (I : Instance) (due : Due) (n : ℕ) (line : List ℕ) (pieces : List (List ℕ)) (outcome : Outcome) → 0 < length pieces → LeadsTo I due n (line ∷ pieces) outcome → TakesLine I n (read_line I due line) (λ next. LeadsTo I next (n + 1) pieces) outcome
-takes_line I due n line [] outcome some leads = absurd (omega arith)
-takes_line I due n line (piece ∷ pieces) outcome some leads = leads
-
 pub leads_on : (I : Instance) (due : Due) (n : ℕ) (line : List ℕ) (pieces : List (List ℕ)) (outcome : Outcome) → 0 < length pieces → TakesLine I n (read_line I due line) (λ next. LeadsTo I next (n + 1) pieces) outcome → LeadsTo I due n (line ∷ pieces) outcome
 leads_on I due n line [] outcome some takes = absurd (omega arith)
 leads_on I due n line (piece ∷ pieces) outcome some takes = takes
 
--- there is a piece of any bytes
-pub some_piece : (bytes : List ℕ) → 0 < length (slice_split is_line_feed bytes)
-some_piece bytes = omega (arith, length-slice_split is_line_feed bytes)
-
--- bytes that begin with a line
-pub takes_first : (I : Instance) (due : Due) (n : ℕ) (line rest : List ℕ) (outcome : Outcome) → IsLine line → LeadsTo I due n (slice_split is_line_feed (line ++ 10 ∷ rest)) outcome → TakesLine I n (read_line I due line) (λ next. LeadsTo I next (n + 1) (slice_split is_line_feed rest)) outcome
-takes_first I due n line rest outcome is_line leads =
-    takes_line I due n line (slice_split is_line_feed rest) outcome (some_piece rest)
-    (subst (λ pieces. LeadsTo I due n pieces outcome) (lines_and_rest line rest is_line) leads)
-
-pub leads_first : (I : Instance) (due : Due) (n : ℕ) (line rest : List ℕ) (outcome : Outcome) → IsLine line → TakesLine I n (read_line I due line) (λ next. LeadsTo I next (n + 1) (slice_split is_line_feed rest)) outcome → LeadsTo I due n (slice_split is_line_feed (line ++ 10 ∷ rest)) outcome
-leads_first I due n line rest outcome is_line takes =
-    subst (λ pieces. LeadsTo I due n pieces outcome) (sym (lines_and_rest line rest is_line))
-    (leads_on I due n line (slice_split is_line_feed rest) outcome (some_piece rest) takes)
+-- a line that goes on leads to what its rest leads to
+pub line_leads : (I : Instance) (due next : Due) (n : ℕ) (line : List ℕ) (pieces : List (List ℕ)) (outcome : Outcome) → GoesOn I (read_line I due line) next → LeadsTo I next (n + 1) pieces outcome → LeadsTo I due n (line ∷ pieces) outcome
+line_leads I due next n line [] outcome on leads = absurd leads
+line_leads I due next n line (piece ∷ pieces) outcome on leads =
+    subst (λ (said : Said). TakesLine I n said (λ d. LeadsTo I d (n + 1) (piece ∷ pieces)) outcome) (sym on.1) (inr (on.2, leads))
 
 -- bytes without a line feed
-pub comes_to_rest : (I : Instance) (due : Due) (n : ℕ) (rest : List ℕ) (outcome : Outcome) → IsLine rest → LeadsTo I due n (slice_split is_line_feed rest) outcome → outcome ≡ at_rest due n rest
-comes_to_rest I due n rest outcome is_line leads = subst (λ pieces. LeadsTo I due n pieces outcome) (one_line rest is_line) leads
-
 pub rests : (I : Instance) (due : Due) (n : ℕ) (rest : List ℕ) (outcome : Outcome) → IsLine rest → outcome ≡ at_rest due n rest → LeadsTo I due n (slice_split is_line_feed rest) outcome
 rests I due n rest outcome is_line is = subst (λ pieces. LeadsTo I due n pieces outcome) (sym (one_line rest is_line)) is
 
@@ -98,3 +82,9 @@ yes_within limit I bytes claim answer =
       | inl longer ↦ absurd (past_yes I (take limit bytes) claim answer.0 answer.1 (rw longer at answer.2))
       | inr within ↦ (answer.0, subst (λ bs. LeadsTo I HeaderDue 1 (slice_split is_line_feed bs) answer.0) (take_all limit bytes (ltb-false limit (length bytes) within)) answer.1, rw within at answer.2)
     ]
+
+-- the verdict on bytes within a limit is the answer on them
+pub verdict_within : (limit : ℕ) (I : Instance) (bytes : List ℕ) (answer : Answer) → length bytes ≤ limit → IsVerdict I bytes answer → IsAnswer limit I bytes answer
+verdict_within limit I bytes answer within verdict =
+    let no_more : nat_lt limit (length bytes) ≡ false = le-ltb limit (length bytes) within in
+    (verdict.0, subst (λ bs. LeadsTo I HeaderDue 1 (slice_split is_line_feed bs) verdict.0) (sym (take_all limit bytes within)) verdict.1, rw no_more verdict.2)

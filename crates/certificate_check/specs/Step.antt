@@ -6,7 +6,7 @@ use Rattle.location_terms.specs.declared.claim.Claim.{Claim}
 use Rattle.location_terms.specs.Instance.{Instance}
 use Rattle.certificate_lines.specs.Due.{Due, NothingDue, Shown, Suits}
 use Rattle.certificate_lines.specs.Lines.{Said}
-use Rattle.certificate_lines.specs.Form.{due_of, HasRisingSites}
+use Rattle.certificate_lines.specs.Form.{due_of}
 use Rattle.certificate_lines.specs.declared.fault.CertFault.{CertFault}
 use Rattle.certificate_lines.specs.declared.fault.CertFault.TheVariants.{ReadFailed, NoMemory}
 use Rattle.certificate_check.specs.declared.step.Step.{Step}
@@ -37,13 +37,9 @@ IsStep line I said (Ok (On form)) = GoesOn I said (due_of form)
 IsStep line I said (Ok (Says verdict)) = Decides line I said (Ok verdict)
 IsStep line I said (Err fault) = (fault ≡ NoMemory) ⊎ Decides line I said (Err fault)
 
--- a line can be read where this is due
-pub record IsReady (I : Instance) (due : Due) : Type 0 where
-  pub suits : Suits I due
-  pub rising : HasRisingSites due
-
+-- a line can be read behind a step that goes on
 abbrev pub LeavesReady : Instance → Step → Type 0
-LeavesReady I (On form) = IsReady I (due_of form)
+LeavesReady I (On form) = Suits I (due_of form)
 LeavesReady I (Says verdict) = Unit {0}
 
 -- the answer on a file of whose first bytes, up to a limit, this rest is left, where this is due in the line of this number

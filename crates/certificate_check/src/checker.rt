@@ -1,13 +1,14 @@
 // The checker, which takes a certificate a line at a time.
-ghost use Rattle.std.specs.Prelude.{◌≡◌, ◌⊎◌, ℕ, ◌+◌, ◌≤◌, List, [], ◌∷◌, ◌++◌, length, take, Option, IfErr, OnOk, IsErrOf, ⊤};
+ghost use Rattle.std.specs.Prelude.{◌≡◌, ◌⊎◌, ℕ, ◌+◌, ◌≤◌, List, [], ◌∷◌, ◌++◌, length, Option, IfErr, OnOk, IsErrOf, ⊤};
 ghost use Rattle.location_terms.specs.Instance.{Instance as Network};
 ghost use Rattle.location_terms.specs.Plan.{Plan};
 ghost use Rattle.location_terms.specs.Optimal.{ClaimHolds};
 ghost use Rattle.location_terms.specs.Certificate.{Certificate, IsAccepted};
+ghost use Rattle.certificate_lines.specs.Follow.{HasSmallCosts};
 ghost use Rattle.certificate_lines.specs.Text.{certificate_text};
 ghost use Rattle.shelf_port.specs.Files.{HasFile, Rose, NeverFalls};
 ghost use Rattle.shelf_lines.specs.Line.{IsLine};
-ghost use Rattle.shelf_lines.specs.Rest.{start_of, ForFile, rest_of, unread};
+ghost use Rattle.shelf_lines.specs.Rest.{start_of, ForFile, TellsFile, rest_of, unread};
 ghost use Rattle.certificate_lines.specs.Due.{Due, NothingDue};
 ghost use Rattle.certificate_lines.specs.Form.{due_of};
 ghost use Rattle.certificate_check.specs.Step.{IsUnread, IsAnswerFrom, claim_behind};
@@ -41,6 +42,12 @@ pub fn check<H: Shelf>(
     ensures yes { (claim : Claim) → result ≡ Ok (Verdict.Yes claim) →
         HasFile (H.files shelf.old) name.now (λ bytes. (cert : Certificate)
         × (bytes ≡ certificate_text inst.now cert) × IsAccepted inst.now cert × (cert.claim ≡ claim)) }
+
+    // The other way, the text of an accepted certificate is answered with yes.
+    ensures accepts { (cert : Certificate) → IsAccepted inst.now cert → HasSmallCosts cert.claim →
+        length (certificate_text inst.now cert) ≤ MAX_CERTIFICATE_BYTES →
+        TellsFile (H.files shelf.old) name.now (certificate_text inst.now cert) →
+        IsUnread result ⊎ (result ≡ Ok (Verdict.Yes cert.claim)) }
 
     // Also where the shelf tells no files.
     ensures holds { (claim : Claim) → result ≡ Ok (Verdict.Yes claim) →
@@ -120,7 +127,8 @@ fn close<H: Shelf>(
         }),
         Ok(Ahead::End) => Ok(Verdict::Yes(claim)),
         Ok(Ahead::Limit) => Err(CertFault::TooLong),
-        Err(fault) => Err(unread(fault)),
+        Err(LineFault::Failed) => Err(CertFault::ReadFailed),
+        Err(LineFault::NoMemory) => Err(CertFault::NoMemory),
     }
 }
 
@@ -157,18 +165,8 @@ fn hand_out<H: Shelf>(
             line,
         }),
         Ok(Next::Limit) => Err(CertFault::TooLong),
-        Err(fault) => Err(unread(fault)),
-    }
-}
-
-// What keeps a line from being read keeps the certificate from it.
-fn unread(fault: LineFault) -> CertFault
-    ensures unread { IsUnread (Err result) }
-    ensures failed { result ≡ CertFault.ReadFailed → fault ≡ LineFault.Failed }
-{
-    match fault {
-        LineFault::Failed => CertFault::ReadFailed,
-        LineFault::NoMemory => CertFault::NoMemory,
+        Err(LineFault::Failed) => Err(CertFault::ReadFailed),
+        Err(LineFault::NoMemory) => Err(CertFault::NoMemory),
     }
 }
 

@@ -7,20 +7,25 @@ ghost use Rattle.location_terms.specs.Certificate.{Certificate, IsAccepted};
 ghost use Rattle.location_terms.specs.declared.claim.Claim.{Claim};
 ghost use Rattle.certificate_lines.specs.Text.{certificate_text};
 ghost use Rattle.certificate_lines.specs.Follow.{HasSmallCosts};
-ghost use Rattle.certificate_check.specs.Verdict.{Answer, IsVerdict};
+ghost use Rattle.certificate_check.specs.Verdict.{Answer, IsAnswer, IsVerdict};
 ghost use Rattle.certificate_check.specs.declared.verdict.Verdict.TheVariants.{Yes};
 
-/// The bytes to which the verdict is yes are the text of an accepted certificate of the claim, and the
-/// claim holds. The other way, the one verdict on the text of an accepted certificate is yes to its
-/// claim, where each cost of the claim is at most `MAX_COST`.
+/// Bytes have at most one verdict, and a file at most one answer within a limit. The bytes to which the
+/// verdict is yes are the text of an accepted certificate of the claim, and the claim holds. The other
+/// way, the verdict on the text of an accepted certificate is yes to its claim, where each cost of the
+/// claim is at most `MAX_COST`.
 pub fn verdicts()
+    ensures one { (I : Instance) (bytes : List ℕ) (a b : Answer) →
+        IsVerdict I bytes a → IsVerdict I bytes b → a ≡ b }
+    ensures one_within { (limit : ℕ) (I : Instance) (bytes : List ℕ) (a b : Answer) →
+        IsAnswer limit I bytes a → IsAnswer limit I bytes b → a ≡ b }
     ensures yes { (I : Instance) (bytes : List ℕ) (claim : Claim) →
         IsValid I → IsVerdict I bytes (Ok (Yes claim)) →
         (cert : Certificate) × (bytes ≡ certificate_text I cert) × IsAccepted I cert × (cert.claim ≡ claim) }
     ensures holds { (I : Instance) (bytes : List ℕ) (claim : Claim) →
         IsValid I → IsVerdict I bytes (Ok (Yes claim)) →
         (plan : Option Plan) × ClaimHolds I claim plan }
-    ensures accepted { (I : Instance) (cert : Certificate) (answer : Answer) →
+    ensures accepted { (I : Instance) (cert : Certificate) →
         IsValid I → IsAccepted I cert → HasSmallCosts cert.claim →
-        IsVerdict I (certificate_text I cert) answer → answer ≡ Ok (Yes cert.claim) }
+        IsVerdict I (certificate_text I cert) (Ok (Yes cert.claim)) }
 {}

@@ -13,6 +13,8 @@ pub use laws::verdicts;
 pub use verdict::{Verdict, Why};
 
 #[cfg(test)]
+mod endless_tests;
+#[cfg(test)]
 mod status_tests;
 #[cfg(test)]
 mod tests;

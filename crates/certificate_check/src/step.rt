@@ -1,8 +1,9 @@
 // One line of a certificate, read and judged.
 ghost use Rattle.std.specs.Prelude.{◌≡◌, ◌≢◌, IfOk};
+ghost use Rattle.certificate_lines.specs.Due.{Suits};
 ghost use Rattle.certificate_lines.specs.Form.{due_of, shown_of};
 ghost use Rattle.certificate_lines.specs.Lines.{read_line};
-ghost use Rattle.certificate_check.specs.Step.{IsReady, IsStep, LeavesReady};
+ghost use Rattle.certificate_check.specs.Step.{IsStep, LeavesReady};
 ghost use Rattle.certificate_check.specs.Verdict.{line_of};
 
 use crate::against::against;
@@ -28,7 +29,7 @@ pub(crate) fn take_line(
     text: &[u8],
     line: u64,
 ) -> Result<Step, CertFault>
-    requires { IsReady inst.now (due_of form) }
+    requires { Suits inst.now (due_of form) }
     ensures step { IsStep line inst.now (read_line inst.now (due_of form) text.now) result }
     ensures ready { IfOk result (LeavesReady inst.now) }
     ensures no_read { result ≢ Err CertFault.ReadFailed }

@@ -1,6 +1,6 @@
 -- What a line gives where it is read: the line that is due behind it suits it, and what it shows is sound.
 use Rattle.std.proofs.Common.{◌≡◌, ℕ, ◌==◌, ◌&&◌, Bool, true, false, not, List, [], ◌∷◌, length, Option, None, Some, refl, ◌∙◌, subst, rules}
-use Rattle.std.specs.Prelude.{ℤ, Result, Ok, Err, IfOk, codes, unsigned_abs, if◌then◌else◌}
+use Rattle.std.specs.Prelude.{ℤ, Contains, Result, Ok, Err, IfOk, codes, unsigned_abs, if◌then◌else◌}
 use Rattle.std.specs.List.{list_all, list_any}
 use Rattle.std.proofs.lemmas.Bool.{and_parts, not-true, eqb-true, leb-true}
 use Rattle.std.proofs.lemmas.List.{length-map}
@@ -8,7 +8,7 @@ use Rattle.location_terms.specs.declared.claim.Claim.{Claim}
 use Rattle.location_terms.specs.declared.claim.Claim.TheVariants.{Optimal, Infeasible, Bracket}
 use Rattle.location_terms.specs.declared.status.SiteStatus.{SiteStatus}
 use Rattle.location_terms.specs.declared.limits.TheConstants.{MAX_SCALE, MAX_VALUE, MAX_MULTIPLIER}
-use Rattle.location_terms.specs.Instance.{Instance}
+use Rattle.location_terms.specs.Instance.{Instance, site_ids, customer_ids}
 use Rattle.location_terms.specs.Box.{Path, must_open, must_close}
 use Rattle.number_words.specs.Line.{words_of_line}
 use Rattle.number_words.specs.Number.{number_of, is_rising}
@@ -16,17 +16,18 @@ use Rattle.branch_tree.specs.Walk.{turned}
 use Rattle.certificate_lines.specs.declared.kind.CertKind.{CertKind}
 use Rattle.certificate_lines.specs.Text.{is_all_free}
 use Rattle.certificate_lines.specs.Due.{Due, HeaderDue, SizesDue, MustOpenDue, MustClosedDue, ClaimDue, OpenDue, ServeDue, NodeDue, ValuesDue, PricesDue, EndDue, NothingDue, Shown, NothingShown, LeafShown, Suits, behind_claim, behind_leaf, node_or_end}
-use Rattle.certificate_lines.specs.Lines.{Said, unless, shows, args, numbers, is_row, is_plain, is_id, is_up_to, is_of_size, sizes_in, read_header, read_sites, read_status, claimed, read_claim, read_open, read_serve, node_in, read_values, read_prices, read_end, read_line, priced_sites, prices, lacks_cap, duals_from}
+use Rattle.certificate_lines.specs.Lines.{Said, unless, shows, args, numbers, is_row, is_plain, is_id, is_up_to, is_of_size, is_among, sizes_in, read_header, read_sites, read_status, claimed, read_claim, read_open, read_serve, node_in, read_values, read_prices, read_end, read_line, priced_sites, prices, lacks_cap, duals_from}
 use Rattle.certificate_lines.specs.declared.form.Form.{Form}
 use Rattle.certificate_lines.specs.declared.form.Shown.{Shown as Told}
 use Rattle.certificate_lines.specs.declared.form.LineFault.{LineFault}
-use Rattle.certificate_lines.specs.Form.{due_of, shown_of, HasRisingSites, IsSound, Shows}
+use Rattle.certificate_lines.specs.Form.{due_of, shown_of, IsSound, Shows}
 use Rattle.certificate_lines.proofs.Plans.{increasing-ids}
 use Rattle.certificate_lines.proofs.LeafFits.{all_of_size, size-up_to, duals_fit}
+use Rattle.certificate_lines.proofs.SpelledTests.{is_among-Contains}
 
 -- the next line suits this one, and what is shown is sound
 abbrev pub IsGood : Instance → Due × Shown → Type 0
-IsGood I read = Suits I read.0 × (HasRisingSites read.0 × IsSound I read.1)
+IsGood I read = Suits I read.0 × IsSound I read.1
 
 -- each answer without a fault is good
 pub record Gives (I : Instance) (said : Said) : Type 0 where
@@ -49,8 +50,8 @@ gives-header : (I : Instance) (line : List ℕ) → Gives I (read_header I line)
 gives-header I line = search (rules, gives-unless, gives-shows) depth 8
 
 behind_sizes-good : (I : Instance) (free : Bool) → IsGood I ((if free then ClaimDue else MustOpenDue), NothingShown)
-behind_sizes-good I true = (tt, (tt, tt))
-behind_sizes-good I false = (tt, (tt, tt))
+behind_sizes-good I true = (tt, tt)
+behind_sizes-good I false = (tt, tt)
 
 gives-sizes : (I : Instance) (line : List ℕ) (ws : List (List ℕ)) → Gives I (sizes_in I line ws)
 gives-sizes I line [] = gives-fault I _
@@ -68,10 +69,10 @@ gives-status : (I : Instance) (word line : List ℕ) (test : SiteStatus → Bool
 gives-status I word line test next good = gives-sites I word line _ (λ _ _. search (gives-unless, gives-shows, good))
 
 behind_claim-good : (I : Instance) (claim : Claim) → IsGood I (behind_claim claim, NothingShown)
-behind_claim-good I (Optimal cost) = (tt, (tt, tt))
-behind_claim-good I Infeasible = (tt, (tt, tt))
-behind_claim-good I (Bracket low None) = (tt, (tt, tt))
-behind_claim-good I (Bracket low (Some high)) = (tt, (tt, tt))
+behind_claim-good I (Optimal cost) = (tt, tt)
+behind_claim-good I Infeasible = (tt, tt)
+behind_claim-good I (Bracket low None) = (tt, tt)
+behind_claim-good I (Bracket low (Some high)) = (tt, tt)
 
 gives-claimed : (I : Instance) (line : List ℕ) (claim : Option Claim) → Gives I (claimed line claim)
 gives-claimed I line None = gives-fault I _
@@ -82,7 +83,7 @@ gives-claim I line = search (gives-unless, gives-claimed)
 
 gives-open : (I : Instance) (claim : Claim) (line : List ℕ) → Gives I (read_open I claim line)
 gives-open I claim line =
-    gives-sites I _ line _ (λ plain are_ids. gives-shows I _ _ (tt, (increasing-ids (args line) are_ids (and_parts (is_plain line (args line)) (is_rising (numbers (args line))) plain).1, tt)))
+    gives-sites I _ line _ (λ plain are_ids. gives-shows I _ _ (increasing-ids (args line) are_ids (and_parts (is_plain line (args line)) (is_rising (numbers (args line))) plain).1, tt))
 
 gives-serve : (I : Instance) (claim : Claim) (sites line : List ℕ) → Gives I (read_serve I claim sites line)
 gives-serve I claim sites line = search (rules, gives-unless, gives-shows) depth 8
@@ -94,13 +95,18 @@ gives-split I false a b first second = second
 gives-node : (I : Instance) (claim : Claim) (path : Path) (line : List ℕ) (ws : List (List ℕ)) → Gives I (node_in I claim path line ws)
 gives-node I claim path line [] = gives-fault I _
 gives-node I claim path line (a ∷ []) = gives-fault I _
-gives-node I claim path line (a ∷ s ∷ []) = search (rules, gives-unless, gives-shows) depth 8
-gives-node I claim path line (a ∷ x ∷ y ∷ []) = search (rules, gives-unless, gives-split, gives-shows, leaf-good) depth 9
+gives-node I claim path line (a ∷ s ∷ []) = search (rules, gives-unless, gives-shows, is_among-Contains) depth 8
+gives-node I claim path line (a ∷ x ∷ y ∷ []) = search (rules, gives-unless, gives-split, gives-shows, leaf-good, lane-sound) depth 9
   where
     leaf-good : is_up_to MAX_SCALE (number_of x) && is_of_size MAX_VALUE (number_of y) ≡ true → IsGood I (ValuesDue claim path (unsigned_abs (number_of x)) (number_of y), NothingShown)
     leaf-good small =
         let parts = and_parts (is_up_to MAX_SCALE (number_of x)) (is_of_size MAX_VALUE (number_of y)) small in
-        ((size-up_to MAX_SCALE (number_of x) parts.0, leb-true (unsigned_abs (number_of y)) MAX_VALUE parts.1), (tt, tt))
+        ((size-up_to MAX_SCALE (number_of x) parts.0, leb-true (unsigned_abs (number_of y)) MAX_VALUE parts.1), tt)
+
+    lane-sound : is_among (site_ids I) (number_of x) && is_among (customer_ids I) (number_of y) ≡ true → Contains (site_ids I) (unsigned_abs (number_of x)) × Contains (customer_ids I) (unsigned_abs (number_of y))
+    lane-sound known =
+        let parts = and_parts (is_among (site_ids I) (number_of x)) (is_among (customer_ids I) (number_of y)) known in
+        (is_among-Contains (site_ids I) (number_of x) parts.0, is_among-Contains (customer_ids I) (number_of y) parts.1)
 gives-node I claim path line (a ∷ x ∷ y ∷ z ∷ ws) = gives-fault I _
 
 gives-values : (I : Instance) (claim : Claim) (path : Path) (q : ℕ) (nu : ℤ) (line : List ℕ) → Suits I (ValuesDue claim path q nu) → Gives I (read_values I claim path q nu line)
@@ -110,11 +116,11 @@ gives-values I claim path q nu line suits = search (gives-unless, gives-shows, v
     values-good row small =
         let count = eqb-true (length (args line)) (length I.customers) (and_parts (is_row (codes "v") (words_of_line line)) _ row).1 in
         let each : length (numbers (args line)) ≡ length I.customers = length-map (args line) number_of ∙ count in
-        ((suits.0, suits.1, each, all_of_size MAX_VALUE (numbers (args line)) small), (tt, tt))
+        ((suits.0, suits.1, each, all_of_size MAX_VALUE (numbers (args line)) small), tt)
 
-behind_leaf-suits : (I : Instance) (claim : Claim) (next : Option Path) → Suits I (node_or_end claim next) × HasRisingSites (node_or_end claim next)
-behind_leaf-suits I claim (Some path) = (tt, tt)
-behind_leaf-suits I claim None = (tt, tt)
+behind_leaf-suits : (I : Instance) (claim : Claim) (next : Option Path) → Suits I (node_or_end claim next)
+behind_leaf-suits I claim (Some path) = tt
+behind_leaf-suits I claim None = tt
 
 gives-prices : (I : Instance) (claim : Claim) (path : Path) (q : ℕ) (nu : ℤ) (v : List ℤ) (line : List ℕ) → Suits I (PricesDue claim path q nu v) → Gives I (read_prices I claim path q nu v line)
 gives-prices I claim path q nu v line suits = search (gives-unless, gives-shows, leaf-good) depth 8
@@ -123,8 +129,7 @@ gives-prices I claim path q nu v line suits = search (gives-unless, gives-shows,
     leaf-good limits =
         let capped = and_parts (list_all is_id (priced_sites line) && list_all (is_up_to MAX_MULTIPLIER) (prices line)) (not (list_any (lacks_cap I) (priced_sites line))) limits in
         let small = (and_parts (list_all is_id (priced_sites line)) (list_all (is_up_to MAX_MULTIPLIER) (prices line)) capped.0).1 in
-        let next = behind_leaf-suits I claim (turned path) in
-        (next.0, (next.1, duals_fit I q nu v line suits.0 suits.1 suits.2 suits.3 small (not-true (list_any (lacks_cap I) (priced_sites line)) capped.1)))
+        (behind_leaf-suits I claim (turned path), duals_fit I q nu v line suits.0 suits.1 suits.2 suits.3 small (not-true (list_any (lacks_cap I) (priced_sites line)) capped.1))
 
 gives-end : (I : Instance) (claim : Claim) (line : List ℕ) → Gives I (read_end claim line)
 gives-end I claim line = search (rules, gives-unless, gives-shows) depth 8
@@ -132,8 +137,8 @@ gives-end I claim line = search (rules, gives-unless, gives-shows) depth 8
 pub gives-line : (I : Instance) (due : Due) (line : List ℕ) → Suits I due → Gives I (read_line I due line)
 gives-line I HeaderDue line suits = gives-header I line
 gives-line I SizesDue line suits = gives-sizes I line (words_of_line line)
-gives-line I MustOpenDue line suits = gives-status I _ line must_open MustClosedDue (tt, (tt, tt))
-gives-line I MustClosedDue line suits = gives-status I _ line must_close ClaimDue (tt, (tt, tt))
+gives-line I MustOpenDue line suits = gives-status I _ line must_open MustClosedDue (tt, tt)
+gives-line I MustClosedDue line suits = gives-status I _ line must_close ClaimDue (tt, tt)
 gives-line I ClaimDue line suits = gives-claim I line
 gives-line I (OpenDue claim) line suits = gives-open I claim line
 gives-line I (ServeDue claim sites) line suits = gives-serve I claim sites line

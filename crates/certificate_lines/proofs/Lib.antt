@@ -27,5 +27,4 @@ pub mod SpelledPriceLine
 pub mod SpelledTree
 pub mod SpelledStages
 pub mod Spelled
-pub mod Known
 pub mod Printed

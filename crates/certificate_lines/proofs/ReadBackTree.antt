@@ -10,7 +10,8 @@ use Rattle.location_terms.specs.Box.{Path}
 use Rattle.location_terms.specs.Bound.{Duals}
 use Rattle.location_terms.specs.Fit.{DualsFit}
 use Rattle.location_terms.specs.Tree.{Node, Leaf, OnSite, OnLane, SplitsAmong, leaves_below}
-use Rattle.branch_tree.specs.Walk.{second_child, one_step, turned_within, turned}
+use Rattle.branch_tree.specs.Walk.{second_child, turned}
+use Rattle.branch_tree.proofs.Ahead.{turned_first, turned_second}
 use Rattle.number_words.specs.Line.{spaced}
 use Rattle.number_words.specs.Number.{number_text}
 use Rattle.certificate_lines.specs.Text.{counts_line, priced, node_lines}
@@ -18,16 +19,6 @@ use Rattle.certificate_lines.specs.Due.{NodeDue, SiteShown, LaneShown, node_or_e
 use Rattle.certificate_lines.specs.Follow.{follow, nodes_told}
 use Rattle.certificate_lines.proofs.ReadBackFollow.{after, after-after, follow-read, follow-silent}
 use Rattle.certificate_lines.proofs.ReadBackNodes.{site-read, lane-read, leaf-read, values-read, prices-read}
-
-turned_first : (d e : Decision) (path : Path) → second_child d ≡ Some e → turned (path ++ d ∷ []) ≡ Some (path ++ e ∷ [])
-unfolding turned
-turned_first d e [] h = ap one_step h
-turned_first d e (x ∷ xs) h = ap (turned_within x) (turned_first d e xs h)
-
-turned_second : (d : Decision) (path : Path) → second_child d ≡ None → turned (path ++ d ∷ []) ≡ turned path
-unfolding turned
-turned_second d [] h = ap one_step h
-turned_second d (x ∷ xs) h = ap (turned_within x) (turned_second d xs h)
 
 -- what is read of a node below a path, whatever lines are behind it
 abbrev pub ReadsBack : Instance → Claim → Path → Node → Type 0

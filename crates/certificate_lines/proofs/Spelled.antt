@@ -12,10 +12,11 @@ use Rattle.location_terms.specs.Tree.{Node, HasLists, leaves_below}
 use Rattle.location_terms.specs.Certificate.{Certificate}
 use Rattle.location_terms.proofs.Places.{length-site_ids, length-customer_ids}
 use Rattle.number_words.specs.Line.{spaced}
+use Rattle.branch_tree.proofs.Ahead.{turned_root}
 use Rattle.certificate_lines.specs.Text.{header_words, sizes_line, status_lines, claim_line, plan_lines, node_lines, certificate_lines}
 use Rattle.certificate_lines.specs.Due.{HeaderDue, ClaimDue, NothingDue, Shown, node_or_end}
 use Rattle.certificate_lines.specs.Follow.{follow, HasText, plan_shown, nodes_told, told_by}
-use Rattle.certificate_lines.proofs.SpelledSteps.{goes_on, turned_root}
+use Rattle.certificate_lines.proofs.SpelledSteps.{goes_on}
 use Rattle.certificate_lines.proofs.SpelledStages.{header_begun, sizes_begun, statuses_begun, claim_begun, plan_begun, ended}
 use Rattle.certificate_lines.proofs.SpelledTree.{node_spelled}
 

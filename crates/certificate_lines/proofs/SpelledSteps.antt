@@ -1,10 +1,7 @@
 -- Lines that are followed to the end, one by one.
 use Rattle.std.proofs.Common.{◌≡◌, ℕ, refl, sym, ap, ◌∙◌, List, [], ◌∷◌, ◌++◌, Some, None}
 use Rattle.std.specs.Prelude.{Option, Ok, Err}
-use Rattle.location_terms.specs.declared.decision.Decision.{Decision}
-use Rattle.location_terms.specs.Box.{Path}
 use Rattle.location_terms.specs.Instance.{Instance}
-use Rattle.branch_tree.specs.Walk.{second_child, one_step, turned_within, turned}
 use Rattle.certificate_lines.specs.Due.{Due, Shown, NothingShown}
 use Rattle.certificate_lines.specs.Lines.{Said, read_line}
 use Rattle.certificate_lines.specs.Follow.{told, shown_first, follow_said, follow}
@@ -58,18 +55,3 @@ goes_on I lines {due} {due'} {end} {xs} {ys} d s e = ap (λ x. follow I x lines)
 -- a line that shows nothing
 pub quiet : {I : Instance} {due due' end : Due} {line : List ℕ} {lines : List (List ℕ)} {all : List Shown} → (first : FirstRead I due line lines end all) → first.next ≡ due' → first.shown ≡ NothingShown → follow I due' lines ≡ Some (end, all)
 quiet {I} {due} {due'} {end} {line} {lines} first d s = goes_on I lines d (first.whole ∙ ap (λ x. told x ++ first.rest) s) first.follows
-
--- the path behind a first child, and behind a second one
-pub turned_first : (d e : Decision) (path : Path) → second_child d ≡ Some e → turned (path ++ d ∷ []) ≡ Some (path ++ e ∷ [])
-unfolding turned
-turned_first d e [] h = ap one_step h
-turned_first d e (x ∷ xs) h = ap (turned_within x) (turned_first d e xs h)
-
-pub turned_second : (d : Decision) (path : Path) → second_child d ≡ None → turned (path ++ d ∷ []) ≡ turned path
-unfolding turned
-turned_second d [] h = ap one_step h
-turned_second d (x ∷ xs) h = ap (turned_within x) (turned_second d xs h)
-
-pub turned_root : turned [] ≡ None
-unfolding turned
-turned_root = refl

@@ -12,13 +12,14 @@ use Rattle.location_terms.specs.Bound.{Duals}
 use Rattle.location_terms.specs.Fit.{DualsFit}
 use Rattle.location_terms.specs.Tree.{Node, Leaf, OnSite, OnLane, SplitsAmong, leaves_below}
 use Rattle.branch_tree.specs.Walk.{second_child, turned}
+use Rattle.branch_tree.proofs.Ahead.{turned_first, turned_second}
 use Rattle.number_words.specs.Line.{words_of_line, spaced}
 use Rattle.number_words.specs.Number.{number_text}
 use Rattle.certificate_lines.specs.Text.{counts_line, node_lines}
 use Rattle.certificate_lines.specs.Due.{NodeDue, ValuesDue, PricesDue, NothingDue, Shown, SiteShown, LaneShown, node_or_end}
 use Rattle.certificate_lines.specs.Lines.{args, numbers, duals_from}
 use Rattle.certificate_lines.specs.Follow.{follow, told, nodes_told}
-use Rattle.certificate_lines.proofs.SpelledSteps.{FirstRead, first_read, none_left, goes_on, quiet, turned_first, turned_second}
+use Rattle.certificate_lines.proofs.SpelledSteps.{FirstRead, first_read, none_left, goes_on, quiet}
 use Rattle.certificate_lines.proofs.SpelledNode.{NodeLine, leaf_line, site_line, lane_line, node_read}
 use Rattle.certificate_lines.proofs.SpelledValues.{AreValues, values_read}
 use Rattle.certificate_lines.proofs.SpelledPriceLine.{prices_read}

@@ -1,5 +1,6 @@
 -- Which line of a certificate's text is due, and what a line shows.
 use Rattle.std.specs.Prelude.{◌≡◌, ℕ, ◌≤◌, List, [], length, All, Option, None, Some, ℤ, unsigned_abs}
+use Rattle.std.specs.List.Sorted.{IsStrictlyIncreasing}
 use Rattle.location_terms.specs.declared.claim.Claim.{Claim}
 use Rattle.location_terms.specs.declared.claim.Claim.TheVariants.{Optimal, Infeasible, Bracket}
 use Rattle.location_terms.specs.declared.limits.TheConstants.{MAX_SCALE, MAX_VALUE}
@@ -42,8 +43,9 @@ node_or_end claim None = EndDue claim
 abbrev pub behind_leaf : Claim → Path → Due
 behind_leaf claim path = node_or_end claim (turned path)
 
--- the numbers that the lines before gave are within their limits, and there are as many as the instance asks for
+-- the numbers that the lines before gave are within their limits, there are as many as the instance asks for, and open sites stand in the order of their ids
 abbrev pub Suits : Instance → Due → Type 0
+Suits I (ServeDue claim sites) = IsStrictlyIncreasing sites
 Suits I (ValuesDue claim path q nu) = (q ≤ MAX_SCALE) × (unsigned_abs nu ≤ MAX_VALUE)
 Suits I (PricesDue claim path q nu v) = (q ≤ MAX_SCALE) × (unsigned_abs nu ≤ MAX_VALUE) × (length v ≡ length I.customers) × All (λ x. unsigned_abs x ≤ MAX_VALUE) v
 Suits I due = Unit {0}

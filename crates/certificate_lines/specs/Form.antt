@@ -1,7 +1,6 @@
 -- What the code's line that is due, and what it has read, mean.
-use Rattle.std.specs.Prelude.{◌≡◌, Result, Ok, Err}
-use Rattle.std.specs.List.Sorted.{IsStrictlyIncreasing}
-use Rattle.location_terms.specs.Instance.{Instance}
+use Rattle.std.specs.Prelude.{◌≡◌, Contains, Result, Ok, Err}
+use Rattle.location_terms.specs.Instance.{Instance, site_ids, customer_ids}
 use Rattle.location_terms.specs.Fit.{DualsFit}
 use Rattle.certificate_lines.specs.declared.form.Form.{Form}
 use Rattle.certificate_lines.specs.declared.form.Form.TheVariants as form
@@ -35,13 +34,10 @@ shown_of (told.Site s) = SiteShown s
 shown_of (told.Lane s c) = LaneShown s c
 shown_of (told.Leaf claim path duals) = LeafShown claim path duals
 
--- the open sites that the lines before gave stand in the order of their ids
-abbrev pub HasRisingSites : Due → Type 0
-HasRisingSites (ServeDue claim sites) = IsStrictlyIncreasing sites
-HasRisingSites due = Unit {0}
-
--- the duals of a leaf that is shown are within their limits
+-- the duals of a leaf that is shown fit, and the site and the customer of a split are ones of the instance
 abbrev pub IsSound : Instance → Shown → Type 0
+IsSound I (SiteShown s) = Contains (site_ids I) s
+IsSound I (LaneShown s c) = Contains (site_ids I) s × Contains (customer_ids I) c
 IsSound I (LeafShown claim path duals) = DualsFit I duals
 IsSound I shown = Unit {0}
 

@@ -1,25 +1,15 @@
 -- What the readers of the first lines say to each other.
-use Rattle.std.specs.Prelude.{ℕ, ◌+◌, min, Bool, Option, None, Some, option_map, Err}
-use Rattle.location_terms.specs.declared.status.SiteStatus.{SiteStatus}
-use Rattle.location_terms.specs.declared.status.SiteStatus.TheVariants.{Free, MustOpen, MustClose}
+use Rattle.std.specs.Prelude.{ℕ, ◌+◌, min, Option, None, Some, option_map, Err}
 use Rattle.location_terms.specs.declared.claim.Claim.{Claim}
 use Rattle.location_terms.specs.declared.claim.Claim.TheVariants.{Optimal, Infeasible, Bracket}
 use Rattle.location_terms.specs.declared.limits.TheConstants.{MAX_COST}
-use Rattle.location_terms.specs.Box.{must_open, must_close}
 use Rattle.certificate_lines.specs.declared.kind.CertKind.{CertKind}
 use Rattle.certificate_lines.specs.Lines.{Said}
-use Rattle.certificate_lines.specs.Text.{has_no_status}
 
 -- the fault that is found, else what follows
 abbrev pub unless_found : Option CertKind → Said → Said
 unless_found None rest = rest
 unless_found (Some kind) rest = Err kind
-
--- whether a site's status is this one
-abbrev pub is_status : SiteStatus → SiteStatus → Bool
-is_status Free = has_no_status
-is_status MustOpen = must_open
-is_status MustClose = must_close
 
 -- a cost, or the first above the limit
 abbrev pub cost_within : ℕ → ℕ

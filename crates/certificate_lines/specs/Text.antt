@@ -25,6 +25,12 @@ has_no_status Free = true
 has_no_status MustOpen = false
 has_no_status MustClose = false
 
+-- whether a site's status is this one
+abbrev pub is_status : SiteStatus → SiteStatus → Bool
+is_status Free = has_no_status
+is_status MustOpen = must_open
+is_status MustClose = must_close
+
 -- no site must be open or closed
 abbrev pub is_all_free : Instance → Bool
 is_all_free I = list_all (λ s. has_no_status s.status) I.sites

@@ -1,7 +1,7 @@
 //! The line of the claim.
 
-ghost use Rattle.std.specs.Prelude.{◌≡◌, ◌∷◌, ◌&&◌, ◌||◌, [], true, not, nat_le, Option, None, Some, option_map, if◌then◌else◌};
-ghost use Rattle.number_words.specs.Cost.{is_cost, is_plain_cost, cost_of};
+ghost use Rattle.std.specs.Prelude.{◌≡◌, ◌∷◌, ◌&&◌, ◌||◌, [], true, not, nat_le, option_map};
+ghost use Rattle.number_words.specs.Cost.{is_cost, cost_of};
 ghost use Rattle.number_words.specs.Line.{words_of_line, is_spaced};
 ghost use Rattle.certificate_lines.specs.Due.{behind_claim};
 ghost use Rattle.certificate_lines.specs.Form.{due_of, Says};

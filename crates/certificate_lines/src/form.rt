@@ -2,7 +2,7 @@
 ghost use Rattle.std.specs.Prelude.{◌≡◌, Ok, IfOk, IfErr};
 ghost use Rattle.certificate_lines.specs.declared.form.LineFault.TheVariants.{NoMemory as OutOfMemory};
 ghost use Rattle.certificate_lines.specs.Due.{Suits};
-ghost use Rattle.certificate_lines.specs.Form.{due_of, shown_of, HasRisingSites, IsSound, IsFaultOf, Says, Shows};
+ghost use Rattle.certificate_lines.specs.Form.{due_of, shown_of, IsSound, IsFaultOf, Says, Shows};
 ghost use Rattle.certificate_lines.specs.Lines.{Said, read_line};
 
 use crate::CertKind;
@@ -55,9 +55,9 @@ pub enum Shown {
     Nothing,
     /// The plan of the claim.
     Plan(Claim, Plan),
-    /// A split on a site.
+    /// A split on a site of the instance.
     Site(SiteId),
-    /// A split on a lane.
+    /// A split on a lane from a site of the instance to a customer of it.
     Lane(SiteId, CustId),
     /// A leaf at a path, with its duals, which fit.
     Leaf(Claim, Path, Duals),
@@ -94,11 +94,9 @@ impl Form {
         inst: &Instance,
         line: &[u8],
     ) -> Result<(Form, Shown), LineFault>
-        requires suits { Suits inst.now (due_of self) }
-        requires rising { HasRisingSites (due_of self) }
+        requires { Suits inst.now (due_of self) }
         ensures ok { IfOk result (λ r. read_line inst.now (due_of self) line.now ≡ Ok (due_of r.0, shown_of r.1)) }
         ensures suits { IfOk result (λ r. Suits inst.now (due_of r.0)) }
-        ensures rising { IfOk result (λ r. HasRisingSites (due_of r.0)) }
         ensures sound { IfOk result (λ r. IsSound inst.now (shown_of r.1)) }
         ensures fault { IfErr result (λ f. IsFaultOf f (read_line inst.now (due_of self) line.now)) }
     {
@@ -113,7 +111,7 @@ fn read_due(
     inst: &Instance,
     line: &[u8],
 ) -> Result<(Form, Shown), LineFault>
-    requires { HasRisingSites (due_of form) }
+    requires { Suits inst.now (due_of form) }
     ensures { Shows result (read_line inst.now (due_of form) line.now) }
 {
     match form {

@@ -1,18 +1,19 @@
 //! The first lines and the last: the header, the sizes, the sites of each status, and the end.
 
-ghost use Rattle.std.specs.Prelude.{◌≡◌, ◌==◌, true, map, unsigned_abs, codes, IsNone, if◌then◌else◌};
+ghost use Rattle.std.specs.Prelude.{◌≡◌, ◌==◌, true, map, unsigned_abs, codes, IsNone};
 ghost use Rattle.std.specs.List.{list_all};
 ghost use Rattle.number_words.specs.Line.{words_of_line};
 ghost use Rattle.number_words.specs.Number.{is_number, number_of, is_rising};
-ghost use Rattle.certificate_lines.specs.Text.{is_all_free, ids_where};
+ghost use Rattle.certificate_lines.specs.Text.{ids_where, is_status};
 ghost use Rattle.certificate_lines.specs.Due.{Due, NothingShown};
 ghost use Rattle.certificate_lines.specs.Form.{due_of, Says};
-ghost use Rattle.certificate_lines.specs.Head.{unless_found, is_status};
+ghost use Rattle.certificate_lines.specs.Head.{unless_found};
 ghost use Rattle.certificate_lines.specs.Lines.{Said, shows, args, numbers, same_words, same_ids, is_same, is_size, is_id, behind_sizes, sizes_in, read_header, read_sites, read_status, read_end};
 ghost use Rattle.location_terms.specs.Box.{must_open, must_close};
 
-use crate::row::{are_ids, are_rising, are_sites, args, is_plain, is_row};
-use crate::{CertKind, Form, LineFault};
+use crate::pass::{Pass, row_passes};
+use crate::row::{are_rising, args, is_plain, is_row};
+use crate::{CertKind, Form, LineFault, is_all_free, is_status, version};
 use instance_store::Instance;
 use location_terms::{Claim, MAX_CUSTOMERS, MAX_SITES, SiteId, SiteStatus};
 use number_words::{LineWords, is_number, is_plain_number, is_spaced, number};
@@ -108,10 +109,10 @@ pub(crate) fn sites_fault(inst: &Instance, line: &[u8], word: &[u8]) -> Option<C
     if !(is_plain(line) && are_rising(line)) {
         return Some(CertKind::NotCanonical);
     }
-    if !are_ids(line) {
+    if !row_passes(line, Pass::Id) {
         return Some(CertKind::OutOfRange);
     }
-    if !are_sites(inst, line) {
+    if !row_passes(line, Pass::Known(inst)) {
         return Some(CertKind::UnknownId);
     }
     None
@@ -147,37 +148,12 @@ fn has_status(inst: &Instance, line: &[u8], status: SiteStatus) -> bool
     words.next().is_none()
 }
 
-fn is_status(status: SiteStatus, wanted: SiteStatus) -> bool
-    ensures { result ≡ is_status wanted status }
-{
-    status == wanted
-}
-
 // Whether a number is this id.
 fn is_same(word: &[u8], id: SiteId) -> bool
     requires { is_number word.now ≡ true }
     ensures { result ≡ is_same (number_of word.now) id }
 {
     number(word) == i128::from(id.number())
-}
-
-// The version of the text of an instance.
-fn version(inst: &Instance) -> &'static [u8]
-    ensures { result.now ≡ (if is_all_free inst.now then codes "1" else codes "2") }
-{
-    if is_all_free(inst) { b"1" } else { b"2" }
-}
-
-// Whether no site must be open or closed.
-fn is_all_free(inst: &Instance) -> bool
-    ensures { result ≡ is_all_free inst.now }
-{
-    for i in 0..inst.sites() {
-        if !is_status(inst.status(i), SiteStatus::Free) {
-            return false;
-        }
-    }
-    true
 }
 
 // What is due behind the sizes: the lines of statuses where some site has one.

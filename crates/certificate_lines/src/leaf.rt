@@ -11,7 +11,8 @@ ghost use Rattle.certificate_lines.specs.Lines.{args, numbers, is_row, is_plain,
 ghost use Rattle.certificate_lines.specs.Form.{Says, Shows, due_of};
 
 use crate::limited::{price_in, value_in};
-use crate::priced::{Pass, place_in, prices, prices_pass, sites, sites_pass, sites_rise};
+use crate::pass::{Pass, place_in, row_passes};
+use crate::priced::{prices, prices_pass, sites, sites_pass, sites_rise};
 use crate::row::{arg_count, args, is_plain, is_row};
 use crate::{CertKind, Form, LineFault, Shown};
 use branch_tree::{Duals, Path, pass_leaf};
@@ -37,25 +38,11 @@ pub(crate) fn read_values(
     if !is_plain(line) {
         return Err(LineFault::Line(CertKind::NotCanonical));
     }
-    if !are_values(line) {
+    if !row_passes(line, Pass::Value) {
         return Err(LineFault::Line(CertKind::OutOfRange));
     }
     let values = value_list(alloc, line)?;
     Ok(Form::Prices(claim, path, q, nu, values))
-}
-
-// Whether each number is within the limit of duals.
-fn are_values(line: &[u8]) -> bool
-    requires { list_all is_number (args line.now) ≡ true }
-    ensures { result ≡ list_all (is_of_size MAX_VALUE) (numbers (args line.now)) }
-{
-    let mut words = args(line);
-    while let Some(word) = words.next() {
-        if value_in(word).is_none() {
-            return false;
-        }
-    }
-    true
 }
 
 // The numbers as duals.

@@ -11,14 +11,17 @@ mod leaf;
 mod limited;
 mod limits;
 mod node;
+mod pass;
 mod plan_lines;
 mod priced;
 mod row;
+mod statuses;
 
 pub use fault::CertFault;
 pub use form::{Form, LineFault, Shown};
 pub use kind::CertKind;
 pub use limits::MAX_CERTIFICATE_BYTES;
+pub use statuses::{is_all_free, is_status, version};
 
 #[cfg(test)]
 mod head_tests;

@@ -1,6 +1,6 @@
 //! Numbers within their limits.
 
-ghost use Rattle.std.specs.Prelude.{◌≡◌, true, Option, Some, None, unsigned_abs, if◌then◌else◌};
+ghost use Rattle.std.specs.Prelude.{◌≡◌, true, Some, None, unsigned_abs, if◌then◌else◌};
 ghost use Rattle.location_terms.specs.declared.limits.TheConstants.{MAX_SCALE, MAX_VALUE, MAX_MULTIPLIER};
 ghost use Rattle.number_words.specs.Number.{is_number, number_of};
 ghost use Rattle.certificate_lines.specs.Lines.{is_up_to, is_of_size};

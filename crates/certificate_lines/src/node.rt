@@ -8,7 +8,8 @@ ghost use Rattle.certificate_lines.specs.Lines.{is_among, is_id, node_in};
 ghost use Rattle.certificate_lines.specs.Form.{Shows};
 
 use crate::limited::{scale_in, value_in};
-use crate::row::{id_in, is_site};
+use crate::pass::place_in;
+use crate::row::id_in;
 use crate::{CertKind, Form, LineFault, Shown};
 use branch_tree::{Decision, Path};
 use instance_store::Instance;
@@ -55,7 +56,7 @@ fn read_site(
     let Some(id) = id_in(site) else {
         return Err(LineFault::Line(CertKind::OutOfRange));
     };
-    if !is_site(inst, site) {
+    if place_in(inst, site).is_none() {
         return Err(LineFault::Line(CertKind::UnknownId));
     }
     let site = SiteId::new(id);
@@ -104,7 +105,7 @@ fn read_lane(
     let (Some(site_id), Some(cust_id)) = (id_in(site), id_in(cust)) else {
         return Err(LineFault::Line(CertKind::OutOfRange));
     };
-    if !is_site(inst, site) || !is_customer(inst, cust) {
+    if place_in(inst, site).is_none() || !is_customer(inst, cust) {
         return Err(LineFault::Line(CertKind::UnknownId));
     }
     let site = SiteId::new(site_id);

@@ -6,13 +6,14 @@ ghost use Rattle.std.specs.List.Sorted.{IsStrictlyIncreasing};
 ghost use Rattle.location_terms.specs.Instance.{customer_ids};
 ghost use Rattle.location_terms.specs.declared.claim.Claim.{Claim};
 ghost use Rattle.number_words.specs.Number.{is_number};
-ghost use Rattle.certificate_lines.specs.Due.{NodeDue, PlanShown};
-ghost use Rattle.certificate_lines.specs.Form.{due_of, Says, Shows, HasRisingSites};
+ghost use Rattle.certificate_lines.specs.Due.{NodeDue, PlanShown, Suits};
+ghost use Rattle.certificate_lines.specs.Form.{due_of, Says, Shows};
 ghost use Rattle.certificate_lines.specs.Head.{unless_found};
 ghost use Rattle.certificate_lines.specs.Lines.{shows, args, ids, numbers, is_id, plan_from, read_open, read_serve};
 
 use crate::head::sites_fault;
-use crate::row::{are_ids, are_sites, arg_count, is_plain, is_row, site_list};
+use crate::pass::{Pass, row_passes};
+use crate::row::{arg_count, is_plain, is_row, site_list};
 use crate::{CertKind, Form, LineFault, Shown};
 use dual_value::Path;
 use instance_store::{Instance, NoMemory};
@@ -28,7 +29,7 @@ pub(crate) fn read_open(
     line: &[u8],
 ) -> Result<Form, LineFault>
     ensures said { Says result (read_open inst.now claim line.now) }
-    ensures rising { IfOk result (λ form. HasRisingSites (due_of form)) }
+    ensures suits { IfOk result (λ form. Suits inst.now (due_of form)) }
 {
     match sites_fault(inst, line, b"open") {
         Some(kind) => Err(LineFault::Line(kind)),
@@ -73,10 +74,10 @@ fn serve_fault(inst: &Instance, line: &[u8]) -> Option<CertKind>
     if !is_plain(line) {
         return Some(CertKind::NotCanonical);
     }
-    if !are_ids(line) {
+    if !row_passes(line, Pass::Id) {
         return Some(CertKind::OutOfRange);
     }
-    if !are_sites(inst, line) {
+    if !row_passes(line, Pass::Known(inst)) {
         return Some(CertKind::UnknownId);
     }
     None

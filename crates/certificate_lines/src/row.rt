@@ -1,17 +1,71 @@
 //! Rows of numbers: what stands behind the first word of a line. Each function is one pass over the
 //! line, which may have any number of words, and numbers of any length.
 
-ghost use Rattle.std.specs.Prelude.{◌≡◌, ℕ, true, Option, Some, None, IfOk, length, unsigned_abs, if◌then◌else◌};
+ghost use Rattle.std.specs.Prelude.{◌≡◌, true, Some, None, IfOk, length, unsigned_abs, if◌then◌else◌};
+ghost use Rattle.std.specs.Iterator.{YieldsFirstBy, item_count};
 ghost use Rattle.std.specs.List.{list_all};
-ghost use Rattle.location_terms.specs.Instance.{site_ids};
 ghost use Rattle.number_words.specs.Line.{words_of_line};
 ghost use Rattle.number_words.specs.Number.{is_number, is_plain_number, number_of, is_rising};
-ghost use Rattle.certificate_lines.specs.Lines.{args, numbers, ids, is_row, is_plain, is_id, is_among};
+ghost use Rattle.certificate_lines.specs.Lines.{args, numbers, ids, every_second, is_row, is_plain, is_id};
 
-use instance_store::{Instance, NoMemory};
+use instance_store::NoMemory;
 use location_terms::SiteId;
 use number_words::{LineWords, is_number, is_plain_number, is_spaced, number, rises};
 use std::alloc::Global;
+use std::marker::Model;
+
+/// An iterator over the words of a row, seen as the list of those that are left: each, or every second
+/// from the first on where they stand in pairs.
+#[derive(Debug, Drop)]
+pub(crate) struct RowWords<'a> {
+    words: LineWords<'a>,
+    in_pairs: bool,
+}
+
+impl<'a> Model for RowWords<'a> {
+    ghost use Rattle.std.specs.Prelude.{List, ℕ, if◌then◌else◌};
+    ghost use Rattle.certificate_lines.specs.Lines.{every_second};
+
+    ghost Value = { List (List ℕ) };
+
+    ghost view = { λ s. if s.in_pairs then every_second s.words else s.words };
+}
+
+impl<'a> Iterator for RowWords<'a> {
+    type Item = &'a [u8];
+
+    ghost next_gives = { YieldsFirstBy (λ word. word.now) (λ words. words) };
+
+    ghost remaining = { item_count (λ words. words) };
+
+    fn next(&mut self) -> Option<&'a [u8]> {
+        let word = self.words.next();
+        if self.in_pairs {
+            let _ = self.words.next();
+        }
+        word
+    }
+}
+
+/// The words of a row of numbers.
+pub(crate) fn row_words(line: &[u8]) -> RowWords<'_>
+    ensures { result ≡ args line.now }
+{
+    RowWords {
+        words: args(line),
+        in_pairs: false,
+    }
+}
+
+/// Every second of some words, from the first on.
+pub(crate) fn every_second(words: LineWords<'_>) -> RowWords<'_>
+    ensures { result ≡ every_second words.entry }
+{
+    RowWords {
+        words,
+        in_pairs: true,
+    }
+}
 
 /// Whether a line is this word and then numbers.
 pub(crate) fn is_row(line: &[u8], word: &[u8]) -> bool
@@ -45,7 +99,15 @@ pub(crate) fn are_rising(line: &[u8]) -> bool
     requires plain { is_plain line.now (args line.now) ≡ true }
     ensures { result ≡ is_rising (numbers (args line.now)) }
 {
-    let mut words = args(line);
+    rise(row_words(line))
+}
+
+/// Whether numbers rise.
+pub(crate) fn rise(mut words: RowWords<'_>) -> bool
+    requires numbers { list_all is_number words ≡ true }
+    requires plain { list_all is_plain_number words ≡ true }
+    ensures { result ≡ is_rising (numbers words.entry) }
+{
     let Some(mut last) = words.next() else {
         return true;
     };
@@ -54,35 +116,6 @@ pub(crate) fn are_rising(line: &[u8]) -> bool
             return false;
         }
         last = word;
-    }
-    true
-}
-
-/// Whether each number is one that an id may be.
-pub(crate) fn are_ids(line: &[u8]) -> bool
-    requires numbers { list_all is_number (args line.now) ≡ true }
-    ensures { result ≡ list_all is_id (numbers (args line.now)) }
-{
-    let mut words = args(line);
-    while let Some(word) = words.next() {
-        if id_in(word).is_none() {
-            return false;
-        }
-    }
-    true
-}
-
-/// Whether each id is that of a site of the instance.
-pub(crate) fn are_sites(inst: &Instance, line: &[u8]) -> bool
-    requires numbers { list_all is_number (args line.now) ≡ true }
-    requires ids { list_all is_id (numbers (args line.now)) ≡ true }
-    ensures { result ≡ list_all (is_among (site_ids inst.now)) (numbers (args line.now)) }
-{
-    let mut words = args(line);
-    while let Some(word) = words.next() {
-        if !is_site(inst, word) {
-            return false;
-        }
     }
     true
 }
@@ -109,18 +142,6 @@ pub(crate) fn id_in(word: &[u8]) -> Option<u32>
     ensures { result ≡ (if is_id (number_of word.now) then Some (unsigned_abs (number_of word.now)) else None) }
 {
     u32::try_from(number(word)).ok()
-}
-
-/// Whether a number is the id of a site of the instance.
-pub(crate) fn is_site(inst: &Instance, word: &[u8]) -> bool
-    requires number { is_number word.now ≡ true }
-    requires id { is_id (number_of word.now) ≡ true }
-    ensures { result ≡ is_among (site_ids inst.now) (number_of word.now) }
-{
-    match id_in(word) {
-        Some(id) => inst.site_at(SiteId::new(id)).is_some(),
-        None => false,
-    }
 }
 
 /// The words behind the first.

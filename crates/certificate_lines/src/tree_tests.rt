@@ -1,6 +1,6 @@
 ghost use Rattle.std.specs.Prelude.{IfOk};
 ghost use Rattle.certificate_lines.specs.Due.{Suits};
-ghost use Rattle.certificate_lines.specs.Form.{due_of, HasRisingSites};
+ghost use Rattle.certificate_lines.specs.Form.{due_of};
 
 use crate::leaf::{read_prices, read_values};
 use crate::node::read_node;
@@ -44,8 +44,7 @@ fn example(alloc: Global) -> Result<Instance, Fail> {
 
 // What is due behind these lines.
 fn read_lines(alloc: Global, inst: &Instance, lines: &[&[u8]]) -> Result<Form, LineFault>
-    ensures suits { IfOk result (λ due. Suits inst.now (due_of due)) }
-    ensures rising { IfOk result (λ due. HasRisingSites (due_of due)) }
+    ensures { IfOk result (λ due. Suits inst.now (due_of due)) }
 {
     let mut due = Form::Header;
     for line in lines {

@@ -1,5 +1,5 @@
 -- What an answer says of the file, from why nothing more is read.
-use Rattle.std.proofs.Common.{◌≡◌, ℕ, List, sym, ap, subst, inl, inr, Option, Ok, Err}
+use Rattle.std.proofs.Common.{◌≡◌, ℕ, List, sym, subst, inl, inr, Option, Ok, Err}
 use Rattle.std.specs.Prelude.{Result, IfOk, IfErr, IsErrAnd}
 use Rattle.location_terms.specs.Instance.{Instance}
 use Rattle.location_terms.specs.Certificate.{Certificate}

@@ -10,17 +10,16 @@ use Rattle.location_terms.specs.Certificate.{Certificate}
 use Rattle.location_terms.proofs.Places.{length-site_ids, length-customer_ids}
 use Rattle.branch_tree.specs.declared.entry.Entry.{Entry}
 use Rattle.branch_tree.specs.declared.entry.Entry.TheVariants.{End, SiteSplit, LaneSplit}
-use Rattle.branch_tree.specs.Begun.{Begun, grown}
-use Rattle.branch_tree.specs.Preorder.{flat, tree_of, tree_of-flat}
+use Rattle.branch_tree.specs.Begun.{Begun}
+use Rattle.branch_tree.specs.Preorder.{flat, tree_of-flat}
 use Rattle.branch_tree.specs.Walk.{IsWhole}
 use Rattle.branch_tree.proofs.Whole.{whole-flat}
 use Rattle.certificate_lines.specs.Text.{certificate_lines}
 use Rattle.certificate_lines.specs.Due.{Due, HeaderDue, NothingDue, Suits, Shown, NothingShown, PlanShown, SiteShown, LaneShown, LeafShown}
 use Rattle.certificate_lines.specs.Lines.{read_line}
 use Rattle.certificate_lines.specs.Follow.{told, follow_said, follow, HasText, plan_shown, nodes_told, told_by}
-use Rattle.certificate_lines.specs.Form.{due_of, IsSound, HasRisingSites}
+use Rattle.certificate_lines.specs.Form.{due_of, IsSound}
 use Rattle.certificate_lines.proofs.ReadBackFollow.{after, followed_by, follow-append}
-use Rattle.certificate_lines.proofs.Known.{IsKnown, shown_known}
 use Rattle.certificate_lines.proofs.Spelled.{spelled}
 use Rattle.certificate_text.specs.declared.kept.Kept.{Kept}
 use Rattle.certificate_text.specs.declared.reading.Reading.{Reading}
@@ -68,25 +67,25 @@ all_customers kept [] = refl
 all_customers kept (x ∷ xs) = all_customers (kept_with kept x) xs ∙ kept_customers kept x
 
 -- what is shown is on the ids that the tree stands on, where these are the instance's
-fits_on : (I : Instance) (nodes : Begun) (shown : Shown) → nodes.sites ≡ site_ids I → nodes.customers ≡ customer_ids I → IsKnown I shown → IsSound I shown → FitsOn nodes shown
-fits_on I nodes NothingShown sites customers known sound = tt
-fits_on I nodes (PlanShown claim P) sites customers known sound = tt
-fits_on I nodes (SiteShown s) sites customers known sound = rw sites known
-fits_on I nodes (LaneShown s c) sites customers known sound = rw (sites, customers) known
-fits_on I nodes (LeafShown claim path d) sites customers known sound =
+fits_on : (I : Instance) (nodes : Begun) (shown : Shown) → nodes.sites ≡ site_ids I → nodes.customers ≡ customer_ids I → IsSound I shown → FitsOn nodes shown
+fits_on I nodes NothingShown sites customers sound = tt
+fits_on I nodes (PlanShown claim P) sites customers sound = tt
+fits_on I nodes (SiteShown s) sites customers sound = rw sites sound
+fits_on I nodes (LaneShown s c) sites customers sound = rw (sites, customers) sound
+fits_on I nodes (LeafShown claim path d) sites customers sound =
     (sound.of_instance.sites ∙ sym (length-site_ids I) ∙ ap length (sym sites), sound.of_instance.customers ∙ sym (length-customer_ids I) ∙ ap length (sym customers), sound.in_limits)
 
-pub line_fits : (I : Instance) (reading : Reading) (past : List (List ℕ)) (line : List ℕ) (next : Due) (shown : Shown) → IsValid I → IsReadOf I past reading → read_line I (due_of reading.due) line ≡ Ok (next, shown) → IsSound I shown → FitsOn reading.kept.nodes shown
-line_fits I reading past line next shown valid read says sound =
+pub line_fits : (I : Instance) (reading : Reading) (past : List (List ℕ)) (shown : Shown) → IsReadOf I past reading → IsSound I shown → FitsOn reading.kept.nodes shown
+line_fits I reading past shown read sound =
     fits_on I reading.kept.nodes shown
     (ap (λ (k : Kept). k.nodes.sites) read.kept ∙ all_sites (nothing_kept I) read.shown)
     (ap (λ (k : Kept). k.nodes.customers) read.kept ∙ all_customers (nothing_kept I) read.shown)
-    (shown_known I (due_of reading.due) line next shown valid says) sound
+    sound
 
 -- one line more
 pub read_more : (I : Instance) (past : List (List ℕ)) (reading next : Reading) (line : List ℕ) (shown : Shown) → IsReadOf I past reading → read_line I (due_of reading.due) line ≡ Ok (due_of next.due, shown)
-    → next.kept ≡ kept_with reading.kept shown → next.line ≡ reading.line + 1 → Suits I (due_of next.due) → HasRisingSites (due_of next.due) → IsReadOf I (past ++ line ∷ []) next
-read_more I past reading next line shown read says keeps counts suits rising = record {
+    → next.kept ≡ kept_with reading.kept shown → next.line ≡ reading.line + 1 → Suits I (due_of next.due) → IsReadOf I (past ++ line ∷ []) next
+read_more I past reading next line shown read says keeps counts suits = record {
   shown = read.shown ++ told shown;
   read = follow-append I HeaderDue past (line ∷ [])
       ∙ ap (λ o. followed_by o (λ due. follow I due (line ∷ []))) read.read
@@ -99,7 +98,6 @@ read_more I past reading next line shown read says keeps counts suits rising = r
   line = omega (arith, counts, read.line, length-append past (line ∷ []));
   few = omega (arith, counts, read.few, kept_few reading.kept shown, ap (λ (k : Kept). length k.nodes.entries) keeps);
   suits = suits;
-  rising = rising;
 }
 
 -- with more nodes

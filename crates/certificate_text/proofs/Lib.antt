@@ -7,3 +7,4 @@ pub mod Nodes
 pub mod Parts
 pub mod Alike
 pub mod Faultless
+pub mod GivesBack

@@ -1,25 +1,24 @@
 -- What the form of a file comes to, from the lines that are read and from what a reader has left.
-use Rattle.std.proofs.Common.{◌≡◌, ◌⊎◌, ℕ, ◌+◌, ◌<◌, ◌≤◌, List, [], ◌∷◌, ◌++◌, length, take, refl, sym, ap, ◌∙◌, subst, arith, inl, inr, Option, None, Some, Ok, Err, append_assoc, append-nil, length-append}
+use Rattle.std.proofs.Common.{◌≡◌, ℕ, ◌+◌, ◌<◌, ◌≤◌, List, [], ◌∷◌, ◌++◌, length, take, refl, sym, ap, ◌∙◌, arith, inl, inr, None, Some, Ok, Err, append_assoc, append-nil, length-append}
 use Rattle.std.specs.List.{slice_split}
 use Rattle.std.proofs.lemmas.List.{take_all}
-use Rattle.std.proofs.lemmas.List.Splits.{length-slice_split}
 use Rattle.location_terms.specs.declared.claim.Claim.{Claim}
 use Rattle.location_terms.specs.Instance.{Instance}
 use Rattle.fixed_cost.specs.Words.{is_line_feed}
 use Rattle.shelf_lines.specs.Line.{IsLine}
-use Rattle.shelf_lines.specs.Rest.{LineState, rest_of, IsAtEnd, IsAtLimit}
-use Rattle.shelf_lines.proofs.Split.{lines_and_rest, one_line}
+use Rattle.shelf_lines.specs.Rest.{LineState, rest_of}
+use Rattle.shelf_lines.proofs.Split.{lines_and_rest, one_line, some_piece}
 use Rattle.certificate_lines.specs.declared.kind.CertKind.{CertKind}
 use Rattle.certificate_lines.specs.declared.kind.CertKind.TheVariants.{Ended, Trailing}
 use Rattle.certificate_lines.specs.Due.{Due, HeaderDue, NothingDue, Shown}
 use Rattle.certificate_lines.specs.Text.{certificate_text, text_of_lines}
-use Rattle.certificate_lines.specs.Lines.{Said, read_line}
-use Rattle.certificate_lines.specs.Follow.{told, follow}
+use Rattle.certificate_lines.specs.Lines.{read_line}
+use Rattle.certificate_lines.specs.Follow.{follow}
 use Rattle.certificate_lines.specs.Form.{due_of}
 use Rattle.certificate_lines.proofs.SpelledSteps.{first_read, none_left}
 use Rattle.certificate_lines.proofs.Printed.{text_of_pieces}
 use Rattle.certificate_text.specs.declared.reading.Reading.{Reading}
-use Rattle.certificate_text.specs.Form.{Form, form_at_rest, form_said, form_from, form_of, form_at_end, HasFault, PassesLimit}
+use Rattle.certificate_text.specs.Form.{form_at_rest, form_said, form_from, form_of, form_at_end, HasFault, PassesLimit}
 use Rattle.certificate_text.specs.Read.{claim_done, IsReadOf, certificate_from}
 use Rattle.certificate_text.proofs.Keeping.{done_due, IsFinished}
 
@@ -29,7 +28,7 @@ form_takes I due n line [] some = absurd (omega arith)
 form_takes I due n line (piece ∷ pieces) some = refl
 
 -- the form behind lines that are read
-form_behind : (I : Instance) (due : Due) (n m : ℕ) (past : List (List ℕ)) (end : Due) (shown : List Shown) (pieces : List (List ℕ)) → 0 < length pieces → n + length past ≡ m → follow I due past ≡ Some (end, shown) → form_from I due n (past ++ pieces) ≡ form_from I end m pieces
+pub form_behind : (I : Instance) (due : Due) (n m : ℕ) (past : List (List ℕ)) (end : Due) (shown : List Shown) (pieces : List (List ℕ)) → 0 < length pieces → n + length past ≡ m → follow I due past ≡ Some (end, shown) → form_from I due n (past ++ pieces) ≡ form_from I end m pieces
 form_behind I due n m [] end shown pieces some counts read =
     let same : n ≡ m = omega arith in
     ap (λ d. form_from I d n pieces) (none_left I due end shown read) ∙ ap (λ k. form_from I end k pieces) same
@@ -42,9 +41,6 @@ form_behind I due n m (line ∷ past) end shown pieces some counts read =
 -- the first bytes of a file, up to a limit, are these lines and what a reader has left
 abbrev pub Parted : ℕ → List (List ℕ) → LineState → List ℕ → Type 0
 Parted limit past reader file = slice_split is_line_feed (take limit file) ≡ past ++ slice_split is_line_feed (rest_of reader file)
-
-some_piece : (bytes : List ℕ) → 0 < length (slice_split is_line_feed bytes)
-some_piece bytes = omega (arith, length-slice_split is_line_feed bytes)
 
 -- one line more
 pub parted_on : (limit : ℕ) (past : List (List ℕ)) (old new : LineState) (line file : List ℕ) → IsLine line → rest_of old file ≡ line ++ 10 ∷ rest_of new file → Parted limit past old file → Parted limit (past ++ line ∷ []) new file

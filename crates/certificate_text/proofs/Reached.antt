@@ -1,13 +1,13 @@
 -- How far a reader and what is read of a certificate have come together, where the shelf tells the file.
-use Rattle.std.proofs.Common.{◌≡◌, ◌⊎◌, ℕ, ◌+◌, ◌<◌, ◌≤◌, List, [], ◌∷◌, ◌++◌, length, take, drop, refl, sym, ap, ◌∙◌, subst, arith, inl, inr, Option, None, Some, Ok, Err, length-append}
+use Rattle.std.proofs.Common.{◌≡◌, ◌⊎◌, ℕ, ◌+◌, ◌<◌, ◌≤◌, List, [], ◌∷◌, ◌++◌, length, take, drop, sym, ap, ◌∙◌, subst, arith, inl, inr, Option, None, Some, Err, length-append}
 use Rattle.std.specs.Prelude.{⊤}
 use Rattle.std.specs.List.{slice_split}
 use Rattle.fixed_cost.specs.Words.{is_line_feed}
 use Rattle.location_terms.specs.declared.claim.Claim.{Claim}
-use Rattle.location_terms.specs.Instance.{Instance, IsValid}
+use Rattle.location_terms.specs.Instance.{Instance}
 use Rattle.shelf_port.specs.Files.{Files, HasFile}
 use Rattle.shelf_lines.specs.Line.{IsLine}
-use Rattle.shelf_lines.specs.Rest.{LineState, ForFile, rest_of, unread, IsAtEnd, IsAtLimit}
+use Rattle.shelf_lines.specs.Rest.{LineState, start_of, ForFile, rest_of, unread, IsAtEnd, IsAtLimit}
 use Rattle.shelf_lines.proofs.Told.{has_more}
 use Rattle.certificate_lines.specs.declared.kind.CertKind.{CertKind}
 use Rattle.certificate_lines.specs.declared.kind.CertKind.TheVariants.{Ended, Trailing}
@@ -17,7 +17,7 @@ use Rattle.certificate_lines.specs.Form.{due_of}
 use Rattle.certificate_text.specs.declared.reading.Reading.{Reading}
 use Rattle.certificate_text.specs.Form.{HasFault, PassesLimit}
 use Rattle.certificate_text.specs.Read.{claim_done, IsReadOf, certificate_from}
-use Rattle.certificate_text.proofs.Keeping.{IsFinished, finished}
+use Rattle.certificate_text.proofs.Keeping.{IsFinished}
 use Rattle.certificate_text.proofs.Parted.{Parted, parted_on, ends_too_soon, passes_in_line, passes_at_end, has_line_fault, has_bytes_behind, is_text}
 
 -- the lines so far are read, and the reader stands behind them
@@ -29,14 +29,15 @@ pub record Reached (told : Option Files) (name : List ℕ) (limit : ℕ) (I : In
   pub room : reading.line + unread reader ≤ limit + 1
   pub same_limit : reader.limit ≡ limit
 
-pub reached_start : (told : Option Files) (name : List ℕ) (limit : ℕ) (I : Instance) (reader : LineState) (reading : Reading) → IsReadOf I [] reading → ((file : List ℕ) → rest_of reader file ≡ take limit file) → reader.ahead ≡ [] → unread reader ≡ limit → reader.limit ≡ limit → Reached told name limit I reader reading
-reached_start told name limit I reader reading read rest none left same = record {
+-- a new reader stands behind no lines
+pub reached_start : (told : Option Files) (name : List ℕ) (limit : ℕ) (I : Instance) (reader : LineState) (reading : Reading) → reader ≡ start_of limit → IsReadOf I [] reading → Reached told name limit I reader reading
+reached_start told name limit I reader reading start read = record {
   past = [];
   read = read;
-  parted = λ files is file at. ap (slice_split is_line_feed) (sym (rest file));
-  there = inl none;
-  room = omega (arith, read.line, left);
-  same_limit = same;
+  parted = λ files is file at. ap (λ (r : LineState). slice_split is_line_feed (rest_of r file)) (sym start);
+  there = inl (ap (λ (r : LineState). r.ahead) start);
+  room = omega (arith, read.line, ap unread start);
+  same_limit = ap (λ (r : LineState). r.limit) start;
 }
 
 -- the file is there, once a reader has looked at it

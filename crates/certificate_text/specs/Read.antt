@@ -18,7 +18,7 @@ use Rattle.certificate_lines.specs.declared.fault.CertFault.TheVariants.{Text, T
 use Rattle.certificate_lines.specs.Due.{Due, HeaderDue, NothingDue, Suits, Shown, NothingShown, PlanShown, SiteShown, LaneShown, LeafShown}
 use Rattle.certificate_lines.specs.Lines.{Said}
 use Rattle.certificate_lines.specs.Follow.{follow}
-use Rattle.certificate_lines.specs.Form.{due_of, HasRisingSites}
+use Rattle.certificate_lines.specs.Form.{due_of}
 use Rattle.certificate_text.specs.declared.kept.Kept.{Kept}
 use Rattle.certificate_text.specs.declared.reading.Reading.{Reading}
 
@@ -59,7 +59,6 @@ pub record IsReadOf (I : Instance) (past : List (List ℕ)) (reading : Reading) 
   pub line : reading.line ≡ length past + 1
   pub few : length reading.kept.nodes.entries + 1 ≤ reading.line
   pub suits : Suits I (due_of reading.due)
-  pub rising : HasRisingSites (due_of reading.due)
 
 -- some lines are read
 abbrev pub IsReading : Instance → Reading → Type 0

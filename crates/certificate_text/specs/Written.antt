@@ -1,9 +1,6 @@
 -- The text of a certificate in the order in which it is written: the lines before the tree, those of each node in preorder, and the last.
-use Rattle.std.specs.Prelude.{ℕ, Bool, List, [], ◌∷◌, ◌++◌, flat_map, codes, pos, ℤ}
-use Rattle.location_terms.specs.declared.status.SiteStatus.{SiteStatus}
-use Rattle.location_terms.specs.declared.status.SiteStatus.TheVariants.{Free, MustOpen, MustClose}
+use Rattle.std.specs.Prelude.{ℕ, List, [], ◌∷◌, ◌++◌, flat_map, codes, pos, ℤ}
 use Rattle.location_terms.specs.Instance.{Instance}
-use Rattle.location_terms.specs.Box.{must_open, must_close}
 use Rattle.location_terms.specs.Bound.{Duals}
 use Rattle.location_terms.specs.Certificate.{Certificate}
 use Rattle.branch_tree.specs.declared.entry.Entry.{Entry}
@@ -12,7 +9,7 @@ use Rattle.branch_tree.specs.declared.node.Node.{Node as Shown}
 use Rattle.branch_tree.specs.declared.node.Node.TheVariants as shown
 use Rattle.number_words.specs.Line.{spaced}
 use Rattle.number_words.specs.Number.{number_text}
-use Rattle.certificate_lines.specs.Text.{counts_line, has_no_status, header_words, sizes_line, status_lines, claim_line, plan_lines, leaf_lines, text_of_lines}
+use Rattle.certificate_lines.specs.Text.{counts_line, header_words, sizes_line, status_lines, claim_line, plan_lines, leaf_lines, text_of_lines}
 
 -- whole numbers that are not below 0, with a space before each
 abbrev pub counted : List ℕ → List ℕ
@@ -21,12 +18,6 @@ counted ns = flat_map (λ n. 32 ∷ number_text (pos n)) ns
 -- numbers of either sign, with a space before each
 abbrev pub numbered : List ℤ → List ℕ
 numbered zs = flat_map (λ z. 32 ∷ number_text z) zs
-
--- whether a site's status is this one
-abbrev pub is_status : SiteStatus → SiteStatus → Bool
-is_status Free = has_no_status
-is_status MustOpen = must_open
-is_status MustClose = must_close
 
 -- the lines before the tree
 abbrev pub head_lines : Instance → Certificate → List (List ℕ)

@@ -1,13 +1,14 @@
 //! The lines of a certificate, as they are printed.
-ghost use Rattle.std.specs.Prelude.{◌≡◌, ◌<◌, ◌++◌, ◌∷◌, [], OnOk, codes, map, pos, if◌then◌else◌};
+ghost use Rattle.std.specs.Prelude.{◌≡◌, ◌++◌, ◌∷◌, [], OnOk, codes, map, pos};
 ghost use Rattle.std.specs.Option.{option_copied};
 ghost use Rattle.fixed_cost.specs.Print.{micro_text};
 ghost use Rattle.number_words.specs.Line.{spaced};
 ghost use Rattle.number_words.specs.Number.{number_text};
-ghost use Rattle.certificate_lines.specs.Text.{is_all_free, ids_where, counts_line, header_words, sizes_line, status_lines, claim_line, plan_lines, leaf_lines, priced, text_of_lines};
-ghost use Rattle.certificate_text.specs.Written.{counted, is_status, scale_line, split_lines};
+ghost use Rattle.certificate_lines.specs.Text.{is_status, ids_where, counts_line, header_words, sizes_line, status_lines, claim_line, plan_lines, leaf_lines, priced, text_of_lines};
+ghost use Rattle.certificate_text.specs.Written.{counted, scale_line, split_lines};
 
 use branch_tree::{Duals, Node};
+use certificate_lines::{is_all_free, is_status, version};
 use fixed_cost::print_micro;
 use instance_store::Instance;
 use location_terms::{Claim, SiteId, SiteStatus};
@@ -22,12 +23,6 @@ pub(crate) fn push_header(text: &mut Vec<u8>, inst: &Instance) -> Result<(), All
     text.extend_from_slice(b"dualoc-certificate ")?;
     text.extend_from_slice(version(inst))?;
     text.extend_from_slice(b"\n")
-}
-
-fn version(inst: &Instance) -> &'static [u8]
-    ensures { result.now ≡ (if is_all_free inst.now then codes "1" else codes "2") }
-{
-    if is_all_free(inst) { b"1" } else { b"2" }
 }
 
 /// The numbers of sites and of customers.
@@ -67,27 +62,6 @@ fn push_status(
         }
     }
     text.extend_from_slice(b"\n")
-}
-
-fn is_all_free(inst: &Instance) -> bool
-    ensures { result ≡ is_all_free inst.now }
-{
-    for i in 0..inst.sites() {
-        if !is_status(inst.status(i), SiteStatus::Free) {
-            return false;
-        }
-    }
-    true
-}
-
-fn is_status(given: SiteStatus, wanted: SiteStatus) -> bool
-    ensures { result ≡ is_status wanted given }
-{
-    match wanted {
-        SiteStatus::Free => matches!(given, SiteStatus::Free),
-        SiteStatus::MustOpen => matches!(given, SiteStatus::MustOpen),
-        SiteStatus::MustClose => matches!(given, SiteStatus::MustClose),
-    }
 }
 
 /// The claim.

@@ -1,11 +1,14 @@
 //! A certificate read back from a file.
-ghost use Rattle.std.specs.Prelude.{◌≡◌, ℕ, IfOk, IsErrOf};
+ghost use Rattle.std.specs.Prelude.{◌≡◌, ℕ, ◌≤◌, length, IfOk, IsErrOf};
+ghost use Rattle.location_terms.specs.Certificate.{Certificate as Written};
 ghost use Rattle.shelf_port.specs.Files.{HasFile, Rose, NeverFalls};
+ghost use Rattle.shelf_lines.specs.Rest.{start_of, TellsFile};
 ghost use Rattle.certificate_lines.specs.declared.kind.CertKind.{CertKind as Kind};
 ghost use Rattle.certificate_lines.specs.Text.{certificate_text};
 ghost use Rattle.certificate_lines.specs.Follow.{HasText};
 ghost use Rattle.certificate_text.specs.Cert.{certificate_of};
 ghost use Rattle.certificate_text.specs.Form.{HasFault, PassesLimit};
+ghost use Rattle.certificate_text.specs.GivesBack.{GivesBack};
 ghost use Rattle.certificate_text.specs.Read.{unread_fault};
 
 use crate::Certificate;
@@ -40,16 +43,53 @@ pub fn read_cert<H: Shelf>(
     ensures failed { IsErrOf result CertFault.ReadFailed →
         Rose (H.read_faults shelf.old name.now) (H.read_faults shelf.new name.now) }
 
+    // What `write_cert` wrote is read back, unless a read fails or memory runs out.
+    ensures gives_back { (cert : Written) → HasText inst.now cert →
+        length (certificate_text inst.now cert) ≤ MAX_CERTIFICATE_BYTES →
+        TellsFile (H.files shelf.old) name.now (certificate_text inst.now cert) →
+        GivesBack cert result }
+
     ensures unchanged { H.files shelf.new ≡ H.files shelf.old }
     ensures reads { NeverFalls (H.read_faults shelf.old) (H.read_faults shelf.new) }
     ensures writes { NeverFalls (H.write_faults shelf.old) (H.write_faults shelf.new) }
 {
-    let _valid = inst.sites();
+    // An instance is valid, so that a text has one certificate.
+    let _sites = inst.sites();
     let mut reader = LineReader::new(alloc, MAX_CERTIFICATE_BYTES);
+    read_lines(alloc, inst, &mut reader, shelf, name)
+}
+
+// The certificate of the lines that a new reader hands out.
+pub(crate) fn read_lines<H: Shelf>(
+    alloc: Global,
+    inst: &Instance,
+    reader: &mut LineReader,
+    shelf: &mut H,
+    name: &str,
+) -> Result<Certificate, CertFault>
+    requires start { reader.old ≡ start_of reader.old.limit }
+    requires within { reader.old.limit ≤ MAX_CERTIFICATE_BYTES }
+    ensures ok { IfOk result (λ cert. HasFile (H.files shelf.old) name.now
+        (λ bytes. bytes ≡ certificate_text inst.now (certificate_of cert))) }
+    ensures has_text { IfOk result (λ cert. HasText inst.now (certificate_of cert)) }
+    ensures fault { (kind : Kind) (line : ℕ) → result ≡ Err (CertFault.Text kind line) →
+        HasFile (H.files shelf.old) name.now
+        (λ bytes. HasFault reader.old.limit inst.now bytes kind line) }
+    ensures too_long { IsErrOf result CertFault.TooLong →
+        HasFile (H.files shelf.old) name.now (PassesLimit reader.old.limit inst.now) }
+    ensures failed { IsErrOf result CertFault.ReadFailed →
+        Rose (H.read_faults shelf.old name.now) (H.read_faults shelf.new name.now) }
+
+    ensures unchanged { H.files shelf.new ≡ H.files shelf.old }
+    ensures reads { NeverFalls (H.read_faults shelf.old) (H.read_faults shelf.new) }
+    ensures writes { NeverFalls (H.write_faults shelf.old) (H.write_faults shelf.new) }
+{
+    // An instance is valid, so that lines that are followed to their end are a certificate's text.
+    let _sites = inst.sites();
     let Ok(mut reading) = Reading::start(alloc, inst) else {
         return Err(CertFault::NoMemory);
     };
-    'lines: loop {
+    loop {
         if let Some(claim) = reading.claim() {
             match reader.peek(shelf, name) {
                 Ok(ahead) => return reading.finish(claim, ahead),

@@ -2,8 +2,10 @@ ghost use Rattle.std.specs.Prelude.{◌<◌};
 
 use super::tests::{TEXT, example};
 use super::*;
+use crate::read::read_lines;
 use instance_store::Instance;
 use location_terms::Claim;
+use shelf_lines::LineReader;
 use shelf_port::MemShelf;
 use std::alloc::Global;
 use std::test::Fail;
@@ -130,5 +132,23 @@ fn says_that_a_read_failed(rt: HostRuntime) -> Result<(), Fail> {
     let mut shelf = shelf_of(alloc, TEXT.as_bytes(), 65_536, 1)?;
     assert!(rt; read_cert(alloc, &mut shelf, "a", &inst).err() == Some(CertFault::ReadFailed));
     assert!(rt; read_cert(alloc, &mut shelf, "b", &inst).err() == Some(CertFault::ReadFailed));
+    Ok(())
+}
+
+// Whether reading the text ends with this fault, or with none, where no more than its first bytes up to
+// the limit are looked at.
+fn reads_within(alloc: Global, limit: u64, fault: Option<CertFault>) -> Result<bool, Fail>
+    requires { limit < 1000 }
+{
+    let inst = example(alloc)?;
+    let mut shelf = shelf_of(alloc, TEXT.as_bytes(), 65_536, 0)?;
+    let mut reader = LineReader::new(alloc, limit);
+    Ok(read_lines(alloc, &inst, &mut reader, &mut shelf, "a").err() == fault)
+}
+
+#[test]
+fn stops_at_the_limit(rt: HostRuntime) -> Result<(), Fail> {
+    assert!(rt; reads_within(rt.alloc(), 126, None)?);
+    assert!(rt; reads_within(rt.alloc(), 125, Some(CertFault::TooLong))?);
     Ok(())
 }

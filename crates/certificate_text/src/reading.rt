@@ -79,7 +79,6 @@ impl Reading {
         ensures fault { IfErr result
             (IsUnread (read_line inst.now (due_of self.due) text.now) self.line) }
     {
-        let _valid = inst.sites();
         let Reading {
             due,
             line,

@@ -1,6 +1,13 @@
 -- What the lines lead to, and what they show.
-use Rattle.certificate_check.proofs.Meaning.{yes_means, yes_holds, only_yes}
+use Rattle.certificate_check.proofs.Meaning.{yes_means, yes_holds, accepted_yes}
+use Rattle.certificate_check.proofs.One.{one_verdict, one_answer}
 use Rattle.certificate_check.proofs.laws.verdicts.Goals as goal
+
+pub returns-clause-one : goal.returns-clause-one
+returns-clause-one c = one_verdict
+
+pub returns-clause-one_within : goal.returns-clause-one_within
+returns-clause-one_within c = one_answer
 
 pub returns-clause-yes : goal.returns-clause-yes
 returns-clause-yes c = yes_means
@@ -9,4 +16,4 @@ pub returns-clause-holds : goal.returns-clause-holds
 returns-clause-holds c = yes_holds
 
 pub returns-clause-accepted : goal.returns-clause-accepted
-returns-clause-accepted c = only_yes
+returns-clause-accepted c = accepted_yes

@@ -2,8 +2,7 @@ use Rattle.std.proofs.Common.{◌≡◌, true, drop, map}
 use Rattle.std.specs.Prelude.{filter}
 use Rattle.std.specs.List.{list_all}
 use Rattle.number_words.specs.Number.{is_number}
-use Rattle.certificate_lines.specs.Text.{ids_where}
-use Rattle.certificate_lines.specs.Head.{is_status}
+use Rattle.certificate_lines.specs.Text.{ids_where, is_status}
 use Rattle.certificate_lines.specs.Lines.{args, numbers, same_ids}
 use Rattle.certificate_lines.proofs.head.has_status.Given as goal
 

@@ -2,7 +2,7 @@ use Rattle.std.proofs.Common.{◌∙◌, sym, refl, not}
 use Rattle.std.proofs.lemmas.Bool.{false≢true}
 use Rattle.std.specs.List.{list_any}
 use Rattle.number_words.specs.Number.{is_rising}
-use Rattle.certificate_lines.specs.declared.priced.Pass.TheVariants.{NotZero}
+use Rattle.certificate_lines.specs.declared.pass.Pass.TheVariants.{NotZero}
 use Rattle.certificate_lines.specs.Lines.{args, is_plain, is_same, priced_sites, prices}
 use Rattle.certificate_lines.specs.Pass.{passes}
 use Rattle.certificate_lines.proofs.Pairs.{none_pass, third_decides}

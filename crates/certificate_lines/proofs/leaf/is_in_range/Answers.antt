@@ -2,7 +2,7 @@ use Rattle.std.proofs.Common.{◌∙◌, sym, refl, not}
 use Rattle.std.proofs.lemmas.Bool.{false≢true}
 use Rattle.std.specs.List.{list_all, list_any}
 use Rattle.location_terms.specs.declared.limits.TheConstants.{MAX_MULTIPLIER}
-use Rattle.certificate_lines.specs.declared.priced.Pass.TheVariants.{Capped}
+use Rattle.certificate_lines.specs.declared.pass.Pass.TheVariants.{Capped}
 use Rattle.certificate_lines.specs.Lines.{is_id, is_up_to, lacks_cap, priced_sites, prices}
 use Rattle.certificate_lines.specs.Pass.{passes}
 use Rattle.certificate_lines.proofs.Pairs.{none_pass, third_decides}

@@ -12,6 +12,6 @@ pub returns-in_ok-site_list-in-None-clause-said : goal.returns-in_ok-site_list-i
 returns-in_ok-site_list-in-None-clause-said c =
     c.in-None.ensures.said _ ∙ ap (λ sites. shows (ServeDue c.args.claim sites) NothingShown) (sym c.in_ok-site_list-in-None.ensures)
 
-pub returns-in_ok-site_list-in-None-clause-rising : goal.returns-in_ok-site_list-in-None-clause-rising
-returns-in_ok-site_list-in-None-clause-rising c =
+pub returns-in_ok-site_list-in-None-clause-suits : goal.returns-in_ok-site_list-in-None-clause-suits
+returns-in_ok-site_list-in-None-clause-suits c =
     subst IsStrictlyIncreasing (sym c.in_ok-site_list-in-None.ensures) (increasing-ids (args c.args.line.now) (c.in-None.ensures.ids refl) (c.in-None.ensures.rising refl))

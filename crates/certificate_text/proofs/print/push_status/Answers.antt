@@ -1,7 +1,7 @@
 use Rattle.std.proofs.Common.{[], ◌∷◌, arith, ap, map}
 use Rattle.std.specs.Prelude.{filter}
 use Rattle.std.proofs.lemmas.List.{take_all}
-use Rattle.certificate_text.specs.Written.{is_status}
+use Rattle.certificate_lines.specs.Text.{is_status}
 use Rattle.certificate_text.proofs.Rows.{once_added, counts_end}
 use Rattle.certificate_text.proofs.print.push_status.Goals as goal
 

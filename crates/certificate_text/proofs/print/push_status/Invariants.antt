@@ -1,6 +1,7 @@
 use Rattle.std.proofs.Common.{◌≡◌, ◌++◌, map, take}
 use Rattle.std.specs.Prelude.{filter}
-use Rattle.certificate_text.specs.Written.{counted, is_status}
+use Rattle.certificate_lines.specs.Text.{is_status}
+use Rattle.certificate_text.specs.Written.{counted}
 use Rattle.certificate_text.proofs.print.push_status.Given as goal
 
 abbrev pub invariant-loop-i : goal.invariant-loop-i

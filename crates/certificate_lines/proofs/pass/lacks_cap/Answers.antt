@@ -2,7 +2,7 @@ use Rattle.std.proofs.Common.{◌≡◌, rules, ap, ◌∙◌, sym}
 use Rattle.std.specs.Prelude.{is_none}
 use Rattle.number_words.specs.Number.{number_of}
 use Rattle.certificate_lines.proofs.Pairs.{unknown-lacks, lacks_cap-at}
-use Rattle.certificate_lines.proofs.priced.lacks_cap.Goals as goal
+use Rattle.certificate_lines.proofs.pass.lacks_cap.Goals as goal
 
 pub returns-in-Some : goal.returns-in-Some
 returns-in-Some c =

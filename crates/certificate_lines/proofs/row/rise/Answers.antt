@@ -4,7 +4,7 @@ use Rattle.std.proofs.lemmas.Bool.{and_parts}
 use Rattle.number_words.specs.Number.{is_number, is_plain_number, number_of, is_rising}
 use Rattle.certificate_lines.specs.Lines.{numbers}
 use Rattle.certificate_lines.proofs.Rows.{rising-on, rising-ends}
-use Rattle.certificate_lines.proofs.priced.rise.Goals as goal
+use Rattle.certificate_lines.proofs.row.rise.Goals as goal
 
 -- all words pass a test: the first, and those behind it
 first_passes : (p : List ℕ → _) (w : List ℕ) (ws : List (List ℕ)) → list_all p (w ∷ ws) ≡ true → p w ≡ true
