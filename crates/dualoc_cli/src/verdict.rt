@@ -1,5 +1,5 @@
 //! What is due for a certificate.
-ghost use Rattle.std.specs.Prelude.{◌≡◌, ◌++◌, [], Ok, Err, IfOk, OnOk, codes, decimal};
+ghost use Rattle.std.specs.Prelude.{◌≡◌, ◌++◌, [], Ok, Err, IfOk, OnOk, decimal};
 ghost use Rattle.shelf_port.specs.Files.{NeverFalls};
 ghost use Rattle.fixed_cost.specs.Print.{micro_text};
 ghost use Rattle.number_words.specs.Number.{number_text};
