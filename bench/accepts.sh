@@ -24,26 +24,14 @@ git -C "$dir/repo" init -q
 program=$dir/repo/crates/accepts_bench/out/accepts_bench
 [ -x "$program" ] || { tail -20 "$dir/log" >&2; exit 70; }
 python3 "$top/bench/certificate.py" "$sites" "$customers" "$depth" "$dir/instance.txt" "$dir/certificate.txt"
-python3 - "$program" "$dir/instance.txt" "$dir/certificate.txt" "$sites" "$customers" "$depth" <<'P'
-import os, subprocess, sys, time
-program, instance, certificate = sys.argv[1:4]
+PYTHONPATH=$top/bench python3 - "$program" "$dir/instance.txt" "$dir/certificate.txt" "$sites" "$customers" "$depth" <<'P'
+import sys
+from timing import best, peak
+
 sites, customers, depth = (int(word) for word in sys.argv[4:7])
-
-def best(times):
-    found = []
-    for _ in range(3):
-        start = time.perf_counter()
-        status = subprocess.run([program, instance, certificate, str(times)]).returncode
-        assert status == 0, status
-        found.append(time.perf_counter() - start)
-    return min(found)
-
-def peak(times):
-    process = subprocess.Popen([program, instance, certificate, str(times)])
-    return os.wait4(process.pid, 0)[2].ru_maxrss * 1024
-
-once, four = best(1), best(4)
+once, four = ([*sys.argv[1:4], times] for times in ("1", "4"))
+spent = best(four)[0] - best(once)[0]
 visits = 3 * 2 ** depth * sites * customers
-print(f"{2 ** depth} leaves, {sites} sites, {customers} customers: {(four - once) / visits * 1e9:.2f} ns for each leaf and lane")
-print(f"peak memory {peak(1)} bytes when asked once, {peak(4)} bytes when asked four times")
+print(f"{2 ** depth} leaves, {sites} sites, {customers} customers: {spent / visits * 1e9:.2f} ns for each leaf and lane")
+print(f"peak memory {peak(once)} bytes when asked once, {peak(four)} bytes when asked four times")
 P

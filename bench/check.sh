@@ -10,23 +10,12 @@ depth=${4:-13}
 dir=$(mktemp -d)
 trap 'rm -rf "$dir"' EXIT
 python3 bench/certificate.py "$sites" "$customers" "$depth" "$dir/instance.txt" "$dir/certificate.txt"
-python3 - "$program" "$dir/instance.txt" "$dir/certificate.txt" "$sites" "$customers" "$depth" <<'P'
-import os, subprocess, sys, time
+PYTHONPATH=bench python3 - "$program" "$dir/instance.txt" "$dir/certificate.txt" "$sites" "$customers" "$depth" <<'P'
+import os, sys
+from timing import best, peak
+
 program, instance, certificate = sys.argv[1:4]
 sites, customers, depth = (int(word) for word in sys.argv[4:7])
-
-def best(words):
-    times = []
-    for _ in range(3):
-        start = time.perf_counter()
-        out = subprocess.run(words, capture_output=True, text=True).stdout
-        times.append(time.perf_counter() - start)
-    return min(times), out.strip()
-
-def peak(words):
-    process = subprocess.Popen(words, stdout=subprocess.DEVNULL)
-    return os.wait4(process.pid, 0)[2].ru_maxrss * 1024
-
 size = os.path.getsize(certificate)
 leaves = 2 ** depth
 words = [program, "check", "ufl", instance, certificate]

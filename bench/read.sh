@@ -15,27 +15,20 @@ with open(sys.argv[1], "w") as f:
         costs = " ".join(str(random.randrange(1, 100000)) for _ in range(5000))
         f.write(f"{i} {random.randrange(1000, 9999)} {costs}\n")
 P
-python3 - "$program" "$dir/big.txt" <<'P'
-import os, subprocess, sys, time
-program, name = sys.argv[1], sys.argv[2]
+PYTHONPATH=bench python3 - "$program" "$dir/big.txt" <<'P'
+import os, sys
+from timing import best, peak
 
-def best(words):
-    times = []
-    for _ in range(3):
-        start = time.perf_counter()
-        out = subprocess.run(words, capture_output=True, text=True).stdout
-        times.append(time.perf_counter() - start)
-    return min(times), out.strip()
-
+program, name = sys.argv[1:3]
+TOO_LARGE = 8
 size = os.path.getsize(name)
 lanes = 5_000_000
+command = [program, "solve", "ufl", name]
 wc, words = best(["wc", "-w", name])
-ours, said = best([program, "solve", "ufl", name])
-pid = subprocess.Popen([program, "solve", "ufl", name], stdout=subprocess.DEVNULL)
-_, _, usage = os.wait4(pid.pid, 0)
-peak = usage.ru_maxrss * 1024
+ours, said = best(command, TOO_LARGE)
+memory = peak(command)
 print(f"file        {size} bytes, {words.split()[0]} words, answered: {said}")
 print(f"wc -w       {wc:.3f} s")
 print(f"dualoc      {ours:.3f} s, {ours / wc:.2f} times wc -w")
-print(f"peak memory {peak} bytes: the file and {(peak - size) / lanes:.1f} bytes a lane")
+print(f"peak memory {memory} bytes: the file and {(memory - size) / lanes:.1f} bytes a lane")
 P

@@ -2,7 +2,7 @@
 
 The reading goes over the whole list of a certificate's lines, knows the UflLib simple format alone, and adds
 up every bound anew. Both are asked about a few certificates, all their proper prefixes, all deletions of one
-byte, and many random changes.
+byte, and many random changes; and the program about two files that are longer than any that is looked at.
 """
 import os
 import random
@@ -13,6 +13,7 @@ import tempfile
 
 MAX_COST = 8 * 10**18
 MAX_ID = 2**32 - 1
+MAX_BYTES = 2**30
 NUMBER, PLAIN_NUMBER = re.compile(rb"[-+]?[0-9]+\Z"), re.compile(rb"(0|-?[1-9][0-9]*)\Z")
 COST, PLAIN_COST = re.compile(rb"[0-9]+\.[0-9]+\Z"), re.compile(rb"(0|[1-9][0-9]*)\.[0-9]{6}\Z")
 
@@ -222,24 +223,36 @@ def texts(original, count):
         yield original[:place] + piece + original[place + random.randrange(3):]
 
 
+def compare(program, folder, text, due):
+    """Stops where the program doesn't answer the certificate in the folder's file `k` with the line that is due."""
+    run = subprocess.run([program, "check", "ufl", "a", "k"], cwd=folder, capture_output=True, text=True)
+    status = 0 if due.startswith("yes") else 8 if due.startswith("too large") else 3
+    if (run.stdout, run.returncode) != (due + "\n", status):
+        sys.exit(f"check: {text!r}: {run.stdout!r} with {run.returncode}, and {due!r} is due")
+
+
 def main():
     program = os.path.abspath(sys.argv[1])
     random.seed(1)
     asked = 0
     with tempfile.TemporaryDirectory() as folder:
+        instance, name = os.path.join(folder, "a"), os.path.join(folder, "k")
         for form, certificate in [(PAIR, BEST), (RING, SPLIT), (RING, BOTH)]:
             inst = Instance(form)
-            with open(os.path.join(folder, "a"), "w") as file:
+            with open(instance, "w") as file:
                 file.write(form)
             for text in texts(certificate.encode(), 600):
-                with open(os.path.join(folder, "k"), "wb") as file:
+                with open(name, "wb") as file:
                     file.write(text)
-                run = subprocess.run([program, "check", "ufl", "a", "k"], cwd=folder, capture_output=True, text=True)
-                due = verdict(inst, text)
-                status = 0 if due.startswith("yes") else 3
-                if (run.stdout, run.returncode) != (due + "\n", status):
-                    sys.exit(f"check: {text!r}: {run.stdout!r} with {run.returncode}, and {due!r} is due")
+                compare(program, folder, text, verdict(inst, text))
                 asked += 1
+        # Longer than the limit: a first line with a fault, and one without an end. What follows is a hole in the file.
+        for front, due in [(b"x\n", "no BadLine line 1"), (b"x", "too large certificate")]:
+            with open(name, "wb") as file:
+                file.write(front)
+                file.truncate(MAX_BYTES + 1)
+            compare(program, folder, front, due)
+            asked += 1
     print(f"certificates: {asked} verdicts agree")
 
 
