@@ -22,7 +22,8 @@ use Rattle.certificate_lines.specs.declared.form.Shown.{Shown as Told}
 use Rattle.certificate_lines.specs.declared.form.LineFault.{LineFault}
 use Rattle.certificate_lines.specs.Form.{due_of, shown_of, IsSound, Shows}
 use Rattle.certificate_lines.proofs.Plans.{increasing-ids}
-use Rattle.certificate_lines.proofs.LeafFits.{all_of_size, size-up_to, duals_fit}
+use Rattle.certificate_lines.proofs.LeafFits.{size-up_to, duals_fit}
+use Rattle.certificate_lines.proofs.SpelledRows.{sizes-small}
 use Rattle.certificate_lines.proofs.SpelledTests.{is_among-Contains}
 
 -- the next line suits this one, and what is shown is sound
@@ -116,7 +117,7 @@ gives-values I claim path q nu line suits = search (gives-unless, gives-shows, v
     values-good row small =
         let count = eqb-true (length (args line)) (length I.customers) (and_parts (is_row (codes "v") (words_of_line line)) _ row).1 in
         let each : length (numbers (args line)) ≡ length I.customers = length-map (args line) number_of ∙ count in
-        ((suits.0, suits.1, each, all_of_size MAX_VALUE (numbers (args line)) small), tt)
+        ((suits.0, suits.1, each, sizes-small MAX_VALUE (numbers (args line)) small), tt)
 
 behind_leaf-suits : (I : Instance) (claim : Claim) (next : Option Path) → Suits I (node_or_end claim next)
 behind_leaf-suits I claim (Some path) = tt

@@ -11,14 +11,7 @@ use Rattle.location_terms.specs.declared.status.SiteStatus.TheVariants.{Free}
 use Rattle.location_terms.specs.Instance.{Instance, site_ids, site_at}
 use Rattle.location_terms.specs.Fit.{DualsFit}
 use Rattle.location_terms.proofs.Places.{length-site_ids, slice_index-site_ids}
-use Rattle.certificate_lines.specs.Lines.{is_up_to, is_of_size, is_same, lacks_cap, price_in, priced_sites, prices, duals_from}
-
--- numbers of at most this size
-pub all_of_size : (most : ℕ) (zs : List ℤ) → list_all (is_of_size most) zs ≡ true → All (λ z. unsigned_abs z ≤ most) zs
-all_of_size most [] small = All-nil (λ z. unsigned_abs z ≤ most)
-all_of_size most (z ∷ zs) small =
-    let parts = and_parts (is_of_size most z) (list_all (is_of_size most) zs) small in
-    All-cons (λ y. unsigned_abs y ≤ most) z zs (leb-true (unsigned_abs z) most parts.0) (all_of_size most zs parts.1)
+use Rattle.certificate_lines.specs.Lines.{is_up_to, is_same, lacks_cap, price_in, priced_sites, prices, duals_from}
 
 pub size-up_to : (most : ℕ) (z : ℤ) → is_up_to most z ≡ true → unsigned_abs z ≤ most
 size-up_to most (pos n) small = leb-true n most small

@@ -3,7 +3,7 @@
 ghost use Rattle.std.specs.Prelude.{◌≡◌, ◌==◌, true, map, unsigned_abs, codes, IsNone};
 ghost use Rattle.std.specs.List.{list_all};
 ghost use Rattle.number_words.specs.Line.{words_of_line};
-ghost use Rattle.number_words.specs.Number.{is_number, number_of, is_rising};
+ghost use Rattle.number_words.specs.Number.{is_number, number_of};
 ghost use Rattle.certificate_lines.specs.Text.{ids_where, is_status};
 ghost use Rattle.certificate_lines.specs.Due.{Due, NothingShown};
 ghost use Rattle.certificate_lines.specs.Form.{due_of, Says};
@@ -101,7 +101,6 @@ pub(crate) fn sites_fault(inst: &Instance, line: &[u8], word: &[u8]) -> Option<C
     ensures said { (rest : Said) → read_sites inst.now word.now line.now rest ≡ unless_found result rest }
     ensures numbers { IsNone result → list_all is_number (args line.now) ≡ true }
     ensures ids { IsNone result → list_all is_id (numbers (args line.now)) ≡ true }
-    ensures rising { IsNone result → is_rising (numbers (args line.now)) ≡ true }
 {
     if !is_row(line, word) {
         return Some(CertKind::BadLine);

@@ -6,8 +6,8 @@ ghost use Rattle.std.specs.List.Sorted.{IsStrictlyIncreasing};
 ghost use Rattle.location_terms.specs.Instance.{customer_ids};
 ghost use Rattle.location_terms.specs.declared.claim.Claim.{Claim};
 ghost use Rattle.number_words.specs.Number.{is_number};
-ghost use Rattle.certificate_lines.specs.Due.{NodeDue, PlanShown, Suits};
-ghost use Rattle.certificate_lines.specs.Form.{due_of, Says, Shows};
+ghost use Rattle.certificate_lines.specs.Due.{NodeDue, PlanShown};
+ghost use Rattle.certificate_lines.specs.Form.{Says, Shows};
 ghost use Rattle.certificate_lines.specs.Head.{unless_found};
 ghost use Rattle.certificate_lines.specs.Lines.{shows, args, ids, numbers, is_id, plan_from, read_open, read_serve};
 
@@ -28,8 +28,7 @@ pub(crate) fn read_open(
     claim: Claim,
     line: &[u8],
 ) -> Result<Form, LineFault>
-    ensures said { Says result (read_open inst.now claim line.now) }
-    ensures suits { IfOk result (λ form. Suits inst.now (due_of form)) }
+    ensures { Says result (read_open inst.now claim line.now) }
 {
     match sites_fault(inst, line, b"open") {
         Some(kind) => Err(LineFault::Line(kind)),

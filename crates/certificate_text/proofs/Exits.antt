@@ -25,16 +25,16 @@ pub handed_on : {T E : Type 0} (r : Result T E) (e f : E) → IsErrAnd r (λ x. 
 handed_on {T} {E} r e f gives is =
     sym (subst (λ (x : Result T E). IsErrAnd x (λ y. y ≡ e)) is gives)
 
+-- the file is the text of the certificate that is answered
+pub answers_text : (told : Option Files) (name : List ℕ) (I : Instance) (ahead : Ahead) (cert : Certificate) (r : Result Held CertFault) → IfOk r (λ held. (ahead ≡ End) × (certificate_of held ≡ cert)) → (ahead ≡ End → HasFile told name (λ bytes. bytes ≡ certificate_text I cert)) → IfOk r (λ held. HasFile told name (λ bytes. bytes ≡ certificate_text I (certificate_of held)))
+answers_text told name I ahead cert (Ok held) answers file = subst (λ c. HasFile told name (λ bytes. bytes ≡ certificate_text I c)) (sym answers.1) (file answers.0)
+answers_text told name I ahead cert (Err e) answers file = tt
+
+pub has_text : (I : Instance) (ahead : Ahead) (cert : Certificate) (r : Result Held CertFault) → IfOk r (λ held. (ahead ≡ End) × (certificate_of held ≡ cert)) → HasText I cert → IfOk r (λ held. HasText I (certificate_of held))
+has_text I ahead cert (Ok held) answers has = subst (HasText I) (sym answers.1) has
+has_text I ahead cert (Err e) answers has = tt
+
 module _ (told : Option Files) (name : List ℕ) (limit : ℕ) (I : Instance) where
-  -- the file is the text of the certificate that is answered
-  pub answers_text : (ahead : Ahead) (cert : Certificate) (r : Result Held CertFault) → IfOk r (λ held. (ahead ≡ End) × (certificate_of held ≡ cert)) → (ahead ≡ End → HasFile told name (λ bytes. bytes ≡ certificate_text I cert)) → IfOk r (λ held. HasFile told name (λ bytes. bytes ≡ certificate_text I (certificate_of held)))
-  answers_text ahead cert (Ok held) answers file = subst (λ c. HasFile told name (λ bytes. bytes ≡ certificate_text I c)) (sym answers.1) (file answers.0)
-  answers_text ahead cert (Err e) answers file = tt
-
-  pub has_text : (ahead : Ahead) (cert : Certificate) (r : Result Held CertFault) → IfOk r (λ held. (ahead ≡ End) × (certificate_of held ≡ cert)) → HasText I cert → IfOk r (λ held. HasText I (certificate_of held))
-  has_text ahead cert (Ok held) answers has = subst (HasText I) (sym answers.1) has
-  has_text ahead cert (Err e) answers has = tt
-
   fault_moved : (kind other : CertKind) (line number : ℕ) → kind ≡ other → line ≡ number → HasFile told name (λ bytes. HasFault limit I bytes other number) → HasFile told name (λ bytes. HasFault limit I bytes kind line)
   fault_moved kind other line number same at file =
       subst (λ k. HasFile told name (λ bytes. HasFault limit I bytes k line)) (sym same)

@@ -1,5 +1,5 @@
-use Rattle.std.proofs.Common.{◌≡◌, rules, true, false, Bool, ◌&&◌, refl, sym, ap, ◌∙◌}
-use Rattle.std.specs.Prelude.{ℕ, ℤ, List, [], ◌∷◌, drop, bytes_eq, codes, Err, Ok}
+use Rattle.std.proofs.Common.{◌≡◌, rules, true, Bool, ◌&&◌, sym, ap, ◌∙◌}
+use Rattle.std.specs.Prelude.{ℕ, ℤ, List, [], ◌∷◌, drop, bytes_eq, codes, Ok}
 use Rattle.std.specs.List.{list_all}
 use Rattle.std.proofs.lemmas.Bool.{and_parts, false≢true}
 use Rattle.location_terms.specs.declared.claim.Claim.{Claim}
@@ -7,15 +7,11 @@ use Rattle.location_terms.specs.Box.{Path}
 use Rattle.location_terms.specs.Bound.{Duals}
 use Rattle.number_words.specs.Line.{words_of_line}
 use Rattle.number_words.specs.Number.{is_number}
-use Rattle.certificate_lines.specs.declared.kind.CertKind.{CertKind}
 use Rattle.certificate_lines.specs.Due.{Due, LeafShown}
-use Rattle.certificate_lines.specs.Lines.{Said, unless, shows, is_row, is_even, args}
+use Rattle.certificate_lines.specs.Lines.{shows, is_row, is_even, args}
 use Rattle.certificate_lines.proofs.ReadBackWords.{unless-passes}
+use Rattle.certificate_lines.proofs.Rows.{unless-fails}
 use Rattle.certificate_lines.proofs.leaf.read_prices.Goals as goal
-
-unless-fails : (ok : Bool) (kind : CertKind) (rest : Said) → ok ≡ false → unless ok kind rest ≡ Err kind
-unless-fails true kind rest fails = cc
-unless-fails false kind rest fails = refl
 
 row_numbers : (word : List ℕ) (ws : List (List ℕ)) (more : Bool) → is_row word ws && more ≡ true → list_all is_number (drop 1 ws) ≡ true
 row_numbers word [] more row = absurd (false≢true row)

@@ -14,13 +14,13 @@ finish-requires g c =
 pub returns-in-Ok-peek-clause-ok : goal.returns-in-Ok-peek-clause-ok
 returns-in-Ok-peek-clause-ok g c =
     let end = finished c.args.inst.now c.loop-claim.invariant.reached.past c.loop-claim.reading c.in-Some.claim c.sites-sites.ensures.valid c.loop-claim.invariant.reached.read (sym c.claim.ensures ∙ c.in-Some.is) in
-    answers_text _ _ 0 c.args.inst.now c.in-Ok-peek.ahead (certificate_from c.in-Some.claim c.loop-claim.reading.kept) c.finish.result c.finish.ensures.ok
+    answers_text _ _ c.args.inst.now c.in-Ok-peek.ahead (certificate_from c.in-Some.claim c.loop-claim.reading.kept) c.finish.result c.finish.ensures.ok
     (λ is. text_reached _ _ _ c.args.inst.now c.loop-claim.reader c.peek.new.self c.loop-claim.reading c.loop-claim.invariant.reached _ c.in-Some.claim c.loop-claim.invariant.unchanged c.in-Ok-peek.ensures.rest (c.in-Ok-peek.ensures.end (ap Ok is)) c.in-Ok-peek.ensures.same_limit end)
 
 pub returns-in-Ok-peek-clause-has_text : goal.returns-in-Ok-peek-clause-has_text
 returns-in-Ok-peek-clause-has_text g c =
     let end = finished c.args.inst.now c.loop-claim.invariant.reached.past c.loop-claim.reading c.in-Some.claim c.sites-sites.ensures.valid c.loop-claim.invariant.reached.read (sym c.claim.ensures ∙ c.in-Some.is) in
-    has_text (g.H.Shelf.files c.args.shelf.now) c.args.name.now 0 c.args.inst.now c.in-Ok-peek.ahead (certificate_from c.in-Some.claim c.loop-claim.reading.kept) c.finish.result c.finish.ensures.ok end.has_text
+    has_text c.args.inst.now c.in-Ok-peek.ahead (certificate_from c.in-Some.claim c.loop-claim.reading.kept) c.finish.result c.finish.ensures.ok end.has_text
 
 pub returns-in-Ok-peek-clause-fault : goal.returns-in-Ok-peek-clause-fault
 returns-in-Ok-peek-clause-fault g c =
