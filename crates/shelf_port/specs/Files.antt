@@ -1,5 +1,5 @@
 -- What a shelf tells of its files, what its calls do to them, and how its counts of faults go.
-use Rattle.std.specs.Prelude.{◌≡◌, ◌⊎◌, ℕ, ◌-◌, ◌^◌, ◌<◌, ◌≤◌, List, [], ◌++◌, length, take, drop, Option, unwrap_or, IfSome, IsSomeAnd}
+use Rattle.std.specs.Prelude.{◌≡◌, ◌⊎◌, ℕ, ◌+◌, ◌-◌, ◌^◌, min, ◌<◌, ◌≤◌, List, [], ◌++◌, length, take, drop, Option, None, Some, unwrap_or, IfSome, IsSomeAnd}
 use Rattle.std.specs.Option.{option_map}
 use Rattle.std.specs.Ordering.{nat_cmp}
 use Rattle.std.specs.Cmp.Lexicographic.{slice_cmp}
@@ -25,6 +25,11 @@ with_added told name more = option_map (λ files. insert files name (bytes_of fi
 abbrev pub HasFile : Option Files → List ℕ → (List ℕ → Type 0) → Type 0
 HasFile told name P = IfSome told (λ files. IsSomeAnd (get files name) P)
 
+-- the named file holds these bytes, as far as the shelf tells
+abbrev pub MayHold : Option Files → List ℕ → List ℕ → Type 0
+MayHold None name bytes = Unit {0}
+MayHold (Some files) name bytes = get files name ≡ Some bytes
+
 -- a read at a place put n bytes of the file at the front of the buffer, and left what lies behind them
 pub record Reads (file : List ℕ) (at n : ℕ) (old new : List ℕ) : Type 0 where
   pub front : take n new ≡ take n (drop at file)
@@ -38,6 +43,10 @@ LeavesPrefix old new name bytes = (new ≡ old) ⊎ ((k : ℕ) × (k ≤ length 
 -- the files are as before, or a prefix of the bytes was added at the end of the named one and the others are as before
 abbrev pub AddsPrefix : Option Files → Option Files → List ℕ → List ℕ → Type 0
 AddsPrefix old new name bytes = (new ≡ old) ⊎ ((k : ℕ) × (k ≤ length bytes) × (new ≡ with_added old name (take k bytes)))
+
+-- one more, where a counter stays at its last value
+abbrev pub one_more : ℕ → ℕ
+one_more n = min (n + 1) (2 ^ 64 - 1)
 
 -- a count of faults rose, or stands at the last value of its counter
 abbrev pub Rose : ℕ → ℕ → Type 0

@@ -4,5 +4,6 @@ pub mod MemShelf
 pub mod MemStreams
 pub mod Memory
 pub mod Plan
+pub mod Ports
 pub mod Real
 pub mod Streams

@@ -1,10 +1,7 @@
 -- How the calls of an object in memory go: which of them fail, and what is counted.
-use Rattle.std.specs.Prelude.{ℕ, ◌+◌, ◌-◌, ◌^◌, min, Contains}
+use Rattle.std.specs.Prelude.{ℕ, Contains}
+use Rattle.shelf_port.specs.Files.{one_more}
 use Rattle.shelf_port.specs.declared.plan.CallPlan.{CallPlan}
-
--- one more, where a counter stays at its last value
-abbrev pub one_more : ℕ → ℕ
-one_more n = min (n + 1) (2 ^ 64 - 1)
 
 -- the number of the next call, counted from 1
 abbrev pub next_call : CallPlan → ℕ
