@@ -1,23 +1,49 @@
 -- The commands, by the words of a command line.
-use Rattle.std.specs.Prelude.{◌==◌, ℕ, Bool, ◌&&◌, not, List, [], ◌∷◌, length, Option, None, Some, codes, bytes_eq, if◌then◌else◌}
+use Rattle.std.specs.Prelude.{◌≡◌, ◌==◌, ℕ, Bool, true, ◌&&◌, not, List, [], ◌∷◌, length, Option, None, Some, Result, codes, bytes_eq, if◌then◌else◌}
+use Rattle.std.specs.List.{list_any}
+use Rattle.std.specs.Option.{option_map}
+use Rattle.location_terms.specs.Instance.{Instance}
+use Rattle.fixed_cost.specs.declared.fault.FileFault.{FileFault}
+use Rattle.ufllib_read.specs.Ufl.{ufl_meaning}
+use Rattle.dualoc_cli.specs.declared.words.FileForm.{FileForm}
+use Rattle.dualoc_cli.specs.declared.words.FileForm.TheVariants.{Ufl}
 
-pub data Command : Type 0 where
-  SolveShort : (file : List ℕ) → Command
-  Check : (file certificate : List ℕ) → Command
+-- the form of instance files that a word names; a word that names a form that isn't read is no command's
+abbrev pub form_of : List ℕ → Option FileForm
+form_of word = if bytes_eq word (codes "ufl") then Some Ufl else None
 
--- the file of the command's instance
-abbrev pub instance_file : Command → List ℕ
-instance_file (SolveShort file) = file
-instance_file (Check file certificate) = file
+-- what the bytes of a file of a form mean: an instance, or the first fault; given is the amount of the option `capacity`, where it is there
+abbrev pub meaning_of : FileForm → Option ℕ → List ℕ → Result Instance FileFault
+meaning_of Ufl given bytes = ufl_meaning bytes
 
-abbrev pub is_name : List ℕ → Bool
-is_name word = not (length word == 0)
+-- where the instance of a command comes from: a form, the name of a file, and the amount of the option `capacity`, where it is there
+pub record Source : Type 0 where
+  pub form : FileForm
+  pub file : List ℕ
+  pub given : Option ℕ
 
--- the command of the words, if they are those of one; the file names of a command are all different
+-- what is to be done with the instance: to solve it by a walk over all sets of sites, or to check the certificate in a file against it
+pub data Job : Type 0 where
+  SolveShort : Job
+  Check : (certificate : List ℕ) → Job
+
+pub record Command : Type 0 where
+  pub source : Source
+  pub job : Job
+
+-- names of files: none is empty, and all are different
+abbrev pub are_names : List (List ℕ) → Bool
+are_names [] = true
+are_names (name ∷ names) = not (length name == 0) && not (list_any (bytes_eq name) names) && are_names names
+
+-- a command without options
+abbrev pub plain_command : Job → List ℕ → FileForm → Command
+plain_command job file form = record { source = record { form = form; file = file; given = None }; job = job }
+
+-- the command of the words, if they are those of one
 abbrev pub command_of : List (List ℕ) → Option Command
 command_of (verb ∷ form ∷ file ∷ []) =
-    if bytes_eq verb (codes "solve") && bytes_eq form (codes "ufl") && is_name file then Some (SolveShort file) else None
+    if bytes_eq verb (codes "solve") && bytes_eq form (codes "ufl") && are_names (file ∷ []) then Some (plain_command SolveShort file Ufl) else None
 command_of (verb ∷ form ∷ file ∷ certificate ∷ []) =
-    if bytes_eq verb (codes "check") && bytes_eq form (codes "ufl") && is_name file && is_name certificate && not (bytes_eq file certificate)
-    then Some (Check file certificate) else None
+    if bytes_eq verb (codes "check") && are_names (file ∷ certificate ∷ []) then option_map (plain_command (Check certificate) file) (form_of form) else None
 command_of _ = None

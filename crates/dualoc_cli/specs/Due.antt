@@ -1,202 +1,205 @@
--- Which status a run may end with, and the text that is due with it.
-use Rattle.std.specs.Prelude.{◌≡◌, ◌≢◌, ◌⊎◌, ℕ, Bool, true, false, IsTrue, ◌<◌, ◌≤◌, List, [], ◌++◌, length, take, Option, None, Some, Result, Ok, Err, codes, decimal, nat_lt, if◌then◌else◌}
-use Rattle.std.specs.FinMap.{get}
-use Rattle.shelf_port.specs.Files.{Files, HasFile, Rose}
-use Rattle.shelf_port.specs.Streams.{with_back}
-use Rattle.fixed_cost.specs.declared.fault.FileFault.{FileFault}
-use Rattle.fixed_cost.specs.Faults.{kind_name}
-use Rattle.location_terms.specs.Instance.{Instance}
+-- What a run does: each reply has its cause, and the run ends with some reply, whose text the output gained.
+use Rattle.std.specs.Prelude.{◌≡◌, ◌≢◌, ◌⊎◌, ℕ, ◌<◌, ◌≤◌, List, length, take, Option, None, Some, Ok, Err, codes}
+use Rattle.shelf_port.specs.Files.{Files, MayHold, Rose}
+use Rattle.shelf_port.specs.Streams.{with_back, RefusedLast}
+use Rattle.shelf_port.specs.Ports.{Ports, SinkState}
+use Rattle.location_terms.specs.Instance.{Instance, IsValid}
 use Rattle.location_terms.specs.Plan.{Plan, cost_of}
 use Rattle.location_terms.specs.Optimal.{IsOptimal, ClaimHolds}
+use Rattle.location_terms.specs.Certificate.{Certificate, IsAccepted}
 use Rattle.location_terms.specs.declared.claim.Claim.{Claim}
-use Rattle.location_terms.specs.declared.claim.Claim.TheVariants.{Optimal}
-use Rattle.ufllib_read.specs.Ufl.{ufl_meaning}
-use Rattle.report.specs.PlanText.{plan_text_of}
+use Rattle.fixed_cost.specs.declared.fault.FileFault.{FileFault}
 use Rattle.set_walk.specs.declared.TheConstants.{MAX_WALK_SITES}
-use Rattle.dualoc_cli.specs.declared.status.Status.{Status}
-use Rattle.dualoc_cli.specs.declared.status.Status.TheVariants.{Done, Infeasible, Bracket, CheckNo, Usage, BadInput, ReadFault, WriteFault, TooLarge, NoMemory}
+use Rattle.certificate_lines.specs.Text.{certificate_text}
+use Rattle.certificate_lines.specs.Follow.{HasSmallCosts}
 use Rattle.certificate_lines.specs.declared.limits.TheConstants.{MAX_CERTIFICATE_BYTES}
-use Rattle.certificate_check.specs.declared.verdict.Verdict.TheVariants.{Yes}
+use Rattle.certificate_lines.specs.declared.fault.CertFault.TheVariants.{Text, TooLong}
+use Rattle.certificate_check.specs.declared.verdict.Verdict.TheVariants.{Yes, No}
 use Rattle.certificate_check.specs.Verdict.{Answer, IsAnswer}
 use Rattle.dualoc_cli.specs.declared.limits.TheConstants.{MAX_INSTANCE_BYTES}
-use Rattle.dualoc_cli.specs.Command.{Command, SolveShort, Check, instance_file, command_of}
-use Rattle.dualoc_cli.specs.Said.{IsSaid, HasStatus}
+use Rattle.dualoc_cli.specs.declared.status.Status.{Status}
+use Rattle.dualoc_cli.specs.declared.status.Status.TheVariants.{Done, Usage, NoMemory}
+use Rattle.dualoc_cli.specs.declared.reply.Reply.{Reply}
+use Rattle.dualoc_cli.specs.declared.reply.Reply.TheVariants.{NoCommand, InstanceUnread, LongInstance, Faulty, ManySites, Optimum, CertificateUnread, LongCertificate, Misspelt, Judged}
+use Rattle.dualoc_cli.specs.Command.{Command, Source, Job, SolveShort, Check, command_of, meaning_of}
+use Rattle.dualoc_cli.specs.Status.{when_cut}
+use Rattle.dualoc_cli.specs.Reply.{status_of, text_of}
 
--- the words of a run, the files that the shelf tells at its start, and the counts of failed reads at its start and its end
-pub record Setting : Type 0 where
+-- the words of a run, and what its ports tell and count at its start and at its end
+pub record Run : Type 0 where
   pub words : List (List ℕ)
-  pub files : Option Files
-  pub reads_before : List ℕ → ℕ
-  pub reads_after : List ℕ → ℕ
+  pub before : Ports
+  pub after : Ports
 
-abbrev pub setting_of : List (List ℕ) → Option Files → (List ℕ → ℕ) → (List ℕ → ℕ) → Setting
-setting_of words files before after = record { words = words; files = files; reads_before = before; reads_after = after }
+abbrev pub run_of : List (List ℕ) → Ports → Ports → Run
+run_of words before after = record { words = words; before = before; after = after }
 
-abbrev pub IsNoCommand : List (List ℕ) → Type 0
-IsNoCommand words = command_of words ≡ None
+-- The causes.
 
--- the file holds these bytes, as far as the shelf tells
-abbrev pub MayHold : Option Files → List ℕ → List ℕ → Type 0
-MayHold None file bytes = Unit {0}
-MayHold (Some files) file bytes = get files file ≡ Some bytes
+-- a read of the named file failed
+abbrev pub FailsToRead : Run → List ℕ → Type 0
+FailsToRead r name = Rose (r.before.shelf.reads name) (r.after.shelf.reads name)
 
 -- the words are those of this command, and the file of its instance holds these bytes
-pub record AsksFor (s : Setting) (command : Command) (bytes : List ℕ) : Type 0 where
-  pub words_are : command_of s.words ≡ Some command
-  pub held : MayHold s.files (instance_file command) bytes
-
--- the text of an optimal plan of an instance of few sites
-pub record PrintsOptimum (I : Instance) (text : List ℕ) : Type 0 where
-  pub plan : Plan
-  pub few : length I.sites ≤ MAX_WALK_SITES
-  pub optimal : IsOptimal I plan
-  pub says : text ≡ plan_text_of I (Optimal (cost_of I plan)) (Some plan)
-
--- the instance has more sites than the walk over all sets of sites takes
-pub record HasManySites (I : Instance) (text : List ℕ) : Type 0 where
-  pub many : MAX_WALK_SITES < length I.sites
-  pub says : text ≡ codes "too large sites\n"
-
-abbrev pub fault_line : FileFault → List ℕ
-fault_line f = codes "bad input " ++ kind_name f.kind ++ codes " line " ++ decimal f.line ++ codes " word " ++ decimal f.word ++ codes "\n"
-
--- what may be answered to an instance that is to be solved
-abbrev pub IsSolved : Instance → Status → List ℕ → Type 0
-IsSolved I Done text = PrintsOptimum I text
-IsSolved I TooLarge text = HasManySites I text
-IsSolved I _ text = ⊥
-
--- the file of a certificate was judged for the instance; where that is a yes, the claim holds, whether or not the shelf tells what the file holds
-pub record IsJudged (s : Setting) (certificate : List ℕ) (I : Instance) (status : Status) (text : List ℕ) : Type 0 where
-  pub answer : Answer
-  pub told : HasFile s.files certificate (λ bytes. IsAnswer MAX_CERTIFICATE_BYTES I bytes answer)
-  pub holds : (claim : Claim) → answer ≡ Ok (Yes claim) → (plan : Option Plan) × ClaimHolds I claim plan
-  pub says : IsSaid answer status text
-
--- what a command may answer to the instance of its file
-abbrev pub IsWork : Setting → Command → Instance → Status → List ℕ → Type 0
-IsWork s (SolveShort file) I status text = IsSolved I status text
-IsWork s (Check file certificate) I status text = IsJudged s certificate I status text
-
--- what may be answered to a file with this meaning
-abbrev pub MayAnswer : Setting → Command → Result Instance FileFault → Status → List ℕ → Type 0
-MayAnswer s command (Ok I) status text = IsWork s command I status text
-MayAnswer s command (Err fault) BadInput text = text ≡ fault_line fault
-MayAnswer s command (Err fault) _ text = ⊥
-
--- the file was read, and is answered
-pub record AnswersFile (s : Setting) (status : Status) (text : List ℕ) : Type 0 where
-  pub command : Command
-  pub bytes : List ℕ
-  pub asked : AsksFor s command bytes
-  pub within : length bytes ≤ MAX_INSTANCE_BYTES
-  pub answer : MayAnswer s command (ufl_meaning bytes) status text
-
--- the file is longer than the limit
-pub record IsTooLong (s : Setting) (text : List ℕ) : Type 0 where
-  pub command : Command
-  pub bytes : List ℕ
-  pub asked : AsksFor s command bytes
-  pub beyond : MAX_INSTANCE_BYTES < length bytes
-  pub says : text ≡ codes "too large instance\n"
+pub record AsksFor (r : Run) (command : Command) (bytes : List ℕ) : Type 0 where
+  pub words_are : command_of r.words ≡ Some command
+  pub held : MayHold r.before.shelf.files command.source.file bytes
 
 -- a read of the instance's file failed
-pub record InstanceFails (s : Setting) : Type 0 where
+pub record InstanceFails (r : Run) : Type 0 where
   pub command : Command
-  pub words_are : command_of s.words ≡ Some command
-  pub rose : Rose (s.reads_before (instance_file command)) (s.reads_after (instance_file command))
+  pub words_are : command_of r.words ≡ Some command
+  pub fails : FailsToRead r command.source.file
+
+-- the instance's file is longer than the limit
+pub record IsTooLong (r : Run) : Type 0 where
+  pub command : Command
+  pub bytes : List ℕ
+  pub asked : AsksFor r command bytes
+  pub beyond : MAX_INSTANCE_BYTES < length bytes
+
+-- this is the first fault of the instance's file
+pub record HasFault (r : Run) (fault : FileFault) : Type 0 where
+  pub command : Command
+  pub bytes : List ℕ
+  pub asked : AsksFor r command bytes
+  pub within : length bytes ≤ MAX_INSTANCE_BYTES
+  pub means : meaning_of command.source.form command.source.given bytes ≡ Err fault
+
+-- the words ask for this job on this instance: it is what the bytes of the file that they name mean
+pub record HasTask (r : Run) (job : Job) (I : Instance) : Type 0 where
+  pub source : Source
+  pub bytes : List ℕ
+  pub asked : AsksFor r (record { source = source; job = job }) bytes
+  pub within : length bytes ≤ MAX_INSTANCE_BYTES
+  pub means : meaning_of source.form source.given bytes ≡ Ok I
+  pub valid : IsValid I
+
+-- an instance that is to be solved has more sites than the walk over all sets of sites takes
+pub record HasManySites (r : Run) : Type 0 where
+  pub instance : Instance
+  pub task : HasTask r SolveShort instance
+  pub many : MAX_WALK_SITES < length instance.sites
+
+-- the plan is optimal for the instance that is to be solved, and this is its cost
+pub record IsSolved (r : Run) (I : Instance) (P : Plan) (cost : ℕ) : Type 0 where
+  pub task : HasTask r SolveShort I
+  pub few : length I.sites ≤ MAX_WALK_SITES
+  pub optimal : IsOptimal I P
+  pub costs : cost ≡ cost_of I P
 
 -- the instance was read, and then a read of the certificate's file failed
-pub record CertificateFails (s : Setting) : Type 0 where
-  pub file : List ℕ
-  pub certificate : List ℕ
-  pub bytes : List ℕ
+pub record CertificateFails (r : Run) : Type 0 where
   pub instance : Instance
-  pub asked : AsksFor s (Check file certificate) bytes
-  pub within : length bytes ≤ MAX_INSTANCE_BYTES
-  pub means : ufl_meaning bytes ≡ Ok instance
-  pub rose : Rose (s.reads_before certificate) (s.reads_after certificate)
+  pub name : List ℕ
+  pub task : HasTask r (Check name) instance
+  pub fails : FailsToRead r name
 
--- a read of a file of the words failed
-abbrev pub HasReadFault : Setting → Type 0
-HasReadFault s = InstanceFails s ⊎ CertificateFails s
+-- this is the answer to what the certificate's file holds
+pub record IsAnswered (r : Run) (answer : Answer) : Type 0 where
+  pub instance : Instance
+  pub name : List ℕ
+  pub task : HasTask r (Check name) instance
+  pub bytes : List ℕ
+  pub held : MayHold r.before.shelf.files name bytes
+  pub answered : IsAnswer MAX_CERTIFICATE_BYTES instance bytes answer
 
--- what is due when the work is done and nothing has been written
-abbrev pub IsDueFirst : Setting → Status → List ℕ → Type 0
-IsDueFirst s Usage text = IsNoCommand s.words × (text ≡ codes "usage\n")
-IsDueFirst s ReadFault text = HasReadFault s × (text ≡ codes "read fault\n")
-IsDueFirst s TooLarge text = IsTooLong s text ⊎ AnswersFile s TooLarge text
-IsDueFirst s status text = AnswersFile s status text
+-- the certificate's file holds the text of an accepted certificate of this claim, and the claim holds
+pub record IsConfirmed (r : Run) (claim : Claim) : Type 0 where
+  pub instance : Instance
+  pub name : List ℕ
+  pub task : HasTask r (Check name) instance
+  pub cert : Certificate
+  pub held : MayHold r.before.shelf.files name (certificate_text instance cert)
+  pub within : length (certificate_text instance cert) ≤ MAX_CERTIFICATE_BYTES
+  pub accepted : IsAccepted instance cert
+  pub claims : cert.claim ≡ claim
+  pub small : HasSmallCosts claim
+  pub holds : (plan : Option Plan) × ClaimHolds instance claim plan
 
--- The run may end with this status, and this is the whole text that is due with it; failed says that a write to the
--- output did, after which nothing more is written. Want of memory may come at any time, also while a text is written.
-abbrev pub IsDue : Setting → Type 0 → Status → List ℕ → Type 0
-IsDue s failed WriteFault text = (AnswersFile s Done text ⊎ AnswersFile s CheckNo text) × failed
-IsDue s failed NoMemory text = (before : List ℕ) × ((before ≡ []) ⊎ ((status : Status) × IsDueFirst s status before)) × (text ≡ before ++ codes "no memory\n")
-IsDue s failed status text = IsDueFirst s status text
+-- what is the case where a run may answer so
+abbrev pub IsCause : Run → Reply → Type 0
+IsCause r NoCommand = command_of r.words ≡ None
+IsCause r InstanceUnread = InstanceFails r
+IsCause r LongInstance = IsTooLong r
+IsCause r (Faulty fault) = HasFault r fault
+IsCause r ManySites = HasManySites r
+IsCause r (Optimum I P cost) = IsSolved r I P cost
+IsCause r CertificateUnread = CertificateFails r
+IsCause r LongCertificate = IsAnswered r (Err TooLong)
+IsCause r (Misspelt kind line) = IsAnswered r (Err (Text kind line))
+IsCause r (Judged (Yes claim)) = IsConfirmed r claim
+IsCause r (Judged (No line why)) = IsAnswered r (Ok (No line why))
 
--- the work is done and answered: its whole text is in the output
-abbrev pub is_result : Status → Bool
-is_result Done = true
-is_result Infeasible = true
-is_result Bracket = true
-is_result CheckNo = true
-is_result status = false
+-- What is printed.
 
--- The output gained a front of the text: all of it where the status is a result, and where no write failed and memory lasted.
-pub record Gains (failed : Type 0) (status : Status) (text : List ℕ) (old new : Option (List ℕ)) : Type 0 where
+-- the output gained the whole text, no call of it was refused, and the run ends with the status that is due
+pub record PrintsWhole (text : List ℕ) (due status : Status) (old new : SinkState) : Type 0 where
+  pub gained : new.written ≡ with_back old.written text
+  pub taken : new.refusals.count ≡ old.refusals.count
+  pub ends : status ≡ due
+
+-- The output refused a call, and nothing was written or tried behind it: it gained a part of the text that isn't all of it.
+-- Where the write failed, a result becomes a write fault, and any other status stays; otherwise memory ran out.
+pub record PrintsFront (text : List ℕ) (due status : Status) (old new : SinkState) : Type 0 where
   pub len : ℕ
-  pub front : len ≤ length text
-  pub gained : new ≡ with_back old (take len text)
-  pub result : IsTrue (is_result status) → len ≡ length text
-  pub whole : (failed → ⊥) → status ≢ NoMemory → len ≡ length text
+  pub front : len < length text
+  pub gained : new.written ≡ with_back old.written (take len text)
+  pub stopped : RefusedLast old.refusals new.refusals
+  pub ends : (Rose old.faults new.faults × (status ≡ when_cut due)) ⊎ (status ≡ NoMemory)
 
--- a run ends with this status, and leaves the output so
-pub record Ends (s : Setting) (failed : Type 0) (status : Status) (old new : Option (List ℕ)) : Type 0 where
-  pub text : List ℕ
-  pub due : IsDue s failed status text
-  pub gains : Gains failed status text old new
+abbrev pub IsPrinted : List ℕ → Status → Status → SinkState → SinkState → Type 0
+IsPrinted text due status old new = PrintsWhole text due status old new ⊎ PrintsFront text due status old new
 
--- the status that is due for an instance
-abbrev pub WorkStatus : Setting → Command → Instance → Status → Type 0
-WorkStatus s (SolveShort file) I status = status ≡ (if nat_lt MAX_WALK_SITES (length I.sites) then TooLarge else Done)
-WorkStatus s (Check file certificate) I status = (answer : Answer) × HasFile s.files certificate (λ bytes. IsAnswer MAX_CERTIFICATE_BYTES I bytes answer) × HasStatus answer status
+-- a run ends with a reply that has its cause
+pub record Answers (r : Run) (status : Status) : Type 0 where
+  pub reply : Reply
+  pub cause : IsCause r reply
+  pub printed : IsPrinted (text_of reply) (status_of reply) status r.before.output r.after.output
 
-abbrev pub MeantStatus : Setting → Command → Result Instance FileFault → Status → Type 0
-MeantStatus s command (Ok I) status = WorkStatus s command I status
-MeantStatus s command (Err fault) status = status ≡ BadInput
+-- a run ends with a reply, or memory ran out before its text was there
+abbrev pub Ends : Run → Status → Type 0
+Ends r status = Answers r status ⊎ IsPrinted (codes "no memory\n") NoMemory status r.before.output r.after.output
 
--- the status that is due for a file of these bytes, where nothing fails
-abbrev pub StatusFor : Setting → Command → List ℕ → Status → Type 0
-StatusFor s command bytes status = ((MAX_INSTANCE_BYTES < length bytes) × (status ≡ TooLarge)) ⊎ ((length bytes ≤ MAX_INSTANCE_BYTES) × MeantStatus s command (ufl_meaning bytes) status)
+-- What a run leaves as it was.
 
--- the shelf tells that the file of the command's instance holds these bytes
-pub record IsTold (s : Setting) (command : Command) (bytes : List ℕ) : Type 0 where
-  pub files : Files
-  pub words_are : command_of s.words ≡ Some command
-  pub told : s.files ≡ Some files
-  pub held : get files (instance_file command) ≡ Some bytes
+pub record ChangesNothing (before after : Ports) : Type 0 where
+  pub files : after.shelf.files ≡ before.shelf.files
+  pub input : after.input ≡ before.input
+
+-- which files a job may change, and whether it reads the input
+abbrev pub Keeps : Job → Ports → Ports → Type 0
+Keeps SolveShort before after = ChangesNothing before after
+Keeps (Check certificate) before after = ChangesNothing before after
+
+abbrev pub Leaves : Option Command → Ports → Ports → Type 0
+Leaves None before after = ChangesNothing before after
+Leaves (Some command) before after = Keeps command.job before after
+
+-- What follows from how a run ends.
+
+-- the shelf tells its files
+abbrev pub IsTold : Run → Type 0
+IsTold r = (files : Files) × (r.before.shelf.files ≡ Some files)
+
+-- a port failed, or memory ran out
+pub data IsHindered (r : Run) (status : Status) : Type 0 where
+  MemoryRanOut : status ≡ NoMemory → IsHindered r status
+  InstanceFailed : InstanceFails r → IsHindered r status
+  CertificateFailed : CertificateFails r → IsHindered r status
+  OutputFailed : Rose r.before.output.faults r.after.output.faults → IsHindered r status
 
 -- What a run does.
-pub record Runs (s : Setting) (failed : Type 0) (status : Status) (old new : Option (List ℕ)) : Type 0 where
+pub record Runs (r : Run) (status : Status) : Type 0 where
   -- the status has its cause, and the output gained the text that is due with it
-  pub ends : Ends s failed status old new
-  -- what is printed with the status Done is the text of an optimal plan, or the yes to a certificate whose claim holds, all of it
-  pub done : status ≡ Done → (text : List ℕ) × AnswersFile s Done text × (new ≡ with_back old text)
-  -- words that are no command are answered so, unless memory runs out
-  pub usage : IsNoCommand s.words → (status ≡ Usage) ⊎ (status ≡ NoMemory)
-  -- where the instance's file is told, the status is the one that is due for its bytes, unless a port fails or memory runs out
-  pub exact : (command : Command) (bytes : List ℕ) → IsTold s command bytes → StatusFor s command bytes status ⊎ ((status ≡ NoMemory) ⊎ (HasReadFault s ⊎ failed))
-
--- the status of a run whose output refused a write
-abbrev pub refused : Status → Status
-refused Done = WriteFault
-refused CheckNo = WriteFault
-refused status = status
-
--- What comes of printing a text that is due with a status: all of it was written, or memory ran out, or a write failed.
-pub record Prints (failed : Type 0) (status : Status) (text : List ℕ) (after : Status) (old new : Option (List ℕ)) : Type 0 where
-  pub len : ℕ
-  pub front : len ≤ length text
-  pub gained : new ≡ with_back old (take len text)
-  pub outcome : ((after ≡ status) × (len ≡ length text)) ⊎ ((after ≡ NoMemory) ⊎ (failed × (after ≡ refused status)))
+  pub ends : Ends r status
+  -- nothing else is changed but what the command may change
+  pub leaves : Leaves (command_of r.words) r.before r.after
+  -- So what is printed with the status Done holds: it is the text of an optimal plan, or the yes to a certificate whose claim holds, all of it.
+  pub done : status ≡ Done → (reply : Reply) × IsCause r reply × (status_of reply ≡ Done) × (r.after.output.written ≡ with_back r.before.output.written (text_of reply))
+  -- Words that are no command are answered so.
+  pub usage : command_of r.words ≡ None → (status ≡ Usage) ⊎ (status ≡ NoMemory)
+  -- Where the files are told, a reply whose cause is there gives the status, unless a port fails or memory runs out.
+  pub exact : IsTold r → (reply : Reply) → IsCause r reply → (status ≡ status_of reply) ⊎ IsHindered r status
+  -- So an instance of few sites is solved.
+  pub solves : IsTold r → (I : Instance) → HasTask r SolveShort I → length I.sites ≤ MAX_WALK_SITES → (status ≡ Done) ⊎ IsHindered r status

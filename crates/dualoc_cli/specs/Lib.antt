@@ -1,5 +1,5 @@
 pub mod Command
 pub mod Due
-pub mod Said
+pub mod Reply
 pub mod Status
 pub mod Step

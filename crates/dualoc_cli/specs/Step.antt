@@ -1,26 +1,35 @@
--- What the parts of a run answer.
-use Rattle.std.specs.Prelude.{◌≡◌, ℕ, List, Result, Ok, codes}
-use Rattle.shelf_port.specs.Files.{Rose}
-use Rattle.fixed_cost.specs.declared.fault.FileFault.{FileFault}
-use Rattle.location_terms.specs.Instance.{Instance}
-use Rattle.dualoc_cli.specs.declared.status.Status.{Status}
-use Rattle.dualoc_cli.specs.declared.status.Status.TheVariants.{ReadFault}
+-- What the parts of a run say of it.
+use Rattle.std.specs.Prelude.{◌≡◌, Option}
+use Rattle.shelf_port.specs.Files.{NeverFalls}
+use Rattle.shelf_port.specs.Ports.{ShelfState}
+use Rattle.location_terms.specs.Plan.{IsFeasible}
+use Rattle.dualoc_cli.specs.declared.reply.Reply.{Reply}
+use Rattle.dualoc_cli.specs.declared.reply.Reply.TheVariants.{NoCommand, InstanceUnread, LongInstance, Faulty, ManySites, Optimum, CertificateUnread, LongCertificate, Misspelt, Judged}
 use Rattle.dualoc_cli.specs.declared.words.Command as told
-use Rattle.dualoc_cli.specs.declared.words.Command.TheVariants as in_memory
-use Rattle.dualoc_cli.specs.Command.{Command, SolveShort, Check}
-use Rattle.dualoc_cli.specs.Due.{Setting, IsJudged, MayAnswer}
+use Rattle.dualoc_cli.specs.declared.words.Source as told_source
+use Rattle.dualoc_cli.specs.declared.words.Job as told_job
+use Rattle.dualoc_cli.specs.declared.words.Job.TheVariants as in_memory
+use Rattle.dualoc_cli.specs.Command.{Source, Job, SolveShort, Check, Command}
+use Rattle.dualoc_cli.specs.Due.{Run}
 
--- the command that is told by a command in memory
+-- what a command in memory asks for
+abbrev pub asked_source : told_source.Source → Source
+asked_source source = record { form = source.form; file = source.file.now; given = source.given }
+
+abbrev pub asked_job : told_job.Job → Job
+asked_job in_memory.SolveShort = SolveShort
+asked_job (in_memory.Check certificate) = Check certificate.now
+
 abbrev pub asked : told.Command → Command
-asked (in_memory.SolveShort file) = SolveShort file.now
-asked (in_memory.Check file certificate) = Check file.now certificate.now
+asked command = record { source = asked_source command.source; job = asked_job command.job }
 
--- the file of a certificate is answered: it was judged, or a read of it failed
-abbrev pub AnswersCertificate : Setting → List ℕ → Instance → Status → List ℕ → Type 0
-AnswersCertificate s certificate I ReadFault text = Rose (s.reads_before certificate) (s.reads_after certificate) × (text ≡ codes "read fault\n")
-AnswersCertificate s certificate I status text = IsJudged s certificate I status text
+-- A part of the run had the shelf so at its start and at its end. The files are those at the start of the run.
+pub record Covers (r : Run) (old new : ShelfState) : Type 0 where
+  pub files : old.files ≡ r.before.shelf.files
+  pub since : NeverFalls r.before.shelf.reads old.reads
+  pub until : NeverFalls new.reads r.after.shelf.reads
 
--- what a command answers to a file with this meaning, where a read of a certificate's file may have failed
-abbrev pub Answers : Setting → Command → Result Instance FileFault → Status → List ℕ → Type 0
-Answers s (Check file certificate) (Ok I) status text = AnswersCertificate s certificate I status text
-Answers s command meaning status text = MayAnswer s command meaning status text
+-- the text of the reply can be made: its plan is one of its instance
+abbrev pub IsPrintable : Reply → Type 0
+IsPrintable (Optimum I P cost) = IsFeasible I P
+IsPrintable reply = Unit {0}

@@ -1,11 +1,15 @@
 //! The commands of the program, over any shelf, input and output.
+//!
+//! `run` finds the command in its words, does what it asks for, which ends in a `Reply`, and prints
+//! the reply's text. Its contract says so: `specs/Due.antt` is the page to read.
 #![tactic(auto)]
 
-mod answer;
 mod limits;
 mod program;
+mod reply;
 mod status;
-mod verdict;
+mod task;
+mod text;
 mod words;
 
 pub use limits::MAX_INSTANCE_BYTES;

@@ -1,14 +1,17 @@
 //! A whole run of the program.
-ghost use Rattle.std.specs.Prelude.{◌≡◌, IfOk, map, string_bytes};
-ghost use Rattle.shelf_port.specs.Files.{Rose};
-ghost use Rattle.dualoc_cli.specs.Due.{setting_of, Runs, IsDueFirst, Prints};
+ghost use Rattle.std.specs.Prelude.{map, string_bytes};
+ghost use Rattle.std.specs.Prelude.{◌⊎◌, codes};
+ghost use Rattle.shelf_port.specs.Ports.{shelf_state, source_state, sink_state, ports_of};
+ghost use Rattle.dualoc_cli.specs.Reply.{status_of, text_of};
+ghost use Rattle.dualoc_cli.specs.Due.{run_of, Runs, IsPrinted};
+ghost use Rattle.dualoc_cli.specs.Step.{IsPrintable};
 
-use crate::answer::{Due, answer};
-use crate::limits::MAX_INSTANCE_BYTES;
+use crate::reply::Reply;
 use crate::status::Status;
-use crate::words::Command;
+use crate::task::reply_to;
+use crate::text::text;
 use instance_store::NoMemory;
-use shelf_port::{ReadWhole, Shelf, Sink, SinkFault, Source, read_whole, write_whole};
+use shelf_port::{Shelf, Sink, SinkFault, Source, write_whole};
 use std::alloc::Global;
 
 /// Does what the words of a command line ask for, and prints the answer to `out`.
@@ -23,43 +26,45 @@ pub fn run<H: Shelf, I: Source, O: Sink>(
     input: &mut I,
     out: &mut O,
 ) -> Status
-    ensures runs { Runs (setting_of (map string_bytes words.now) (H.files shelf.old) (H.read_faults shelf.old) (H.read_faults shelf.new))
-        (Rose (O.faults out.old) (O.faults out.new)) result (O.written out.old) (O.written out.new) }
-    ensures files { H.files shelf.new ≡ H.files shelf.old }
-    ensures input { I.left input.new ≡ I.left input.old }
+    ensures runs { Runs (run_of (map string_bytes words.now)
+        (ports_of (shelf_state (H.files shelf.old) (H.read_faults shelf.old) (H.write_faults shelf.old))
+        (source_state (I.left input.old) (I.faults input.old))
+        (sink_state (O.written out.old) (O.faults out.old) (O.refusals out.old)))
+        (ports_of (shelf_state (H.files shelf.new) (H.read_faults shelf.new) (H.write_faults shelf.new))
+        (source_state (I.left input.new) (I.faults input.new))
+        (sink_state (O.written out.new) (O.faults out.new) (O.refusals out.new)))) result }
 {
-    match due_of(alloc, words, shelf) {
-        Ok(due) => print(out, due.status, &due.text),
+    match reply_to(alloc, words, shelf) {
+        Ok(reply) => print_reply(alloc, out, &reply),
         Err(NoMemory) => print(out, Status::NoMemory, b"no memory\n"),
     }
 }
 
-/// What is due before anything is written.
-fn due_of<H: Shelf>(alloc: Global, words: &[String], shelf: &mut H) -> Result<Due, NoMemory>
-    ensures due { IfOk result (λ due. IsDueFirst (setting_of (map string_bytes words.now) (H.files shelf.old) (H.read_faults shelf.old) (H.read_faults shelf.new)) due.status due.text.items) }
-    ensures files { H.files shelf.new ≡ H.files shelf.old }
+// Prints a reply, and answers the status that the run then has.
+fn print_reply<O: Sink>(alloc: Global, out: &mut O, reply: &Reply) -> Status
+    requires { IsPrintable reply.now }
+    ensures { IsPrinted (text_of reply.now) (status_of reply.now) result
+        (sink_state (O.written out.old) (O.faults out.old) (O.refusals out.old))
+        (sink_state (O.written out.new) (O.faults out.new) (O.refusals out.new))
+        ⊎ IsPrinted (codes "no memory\n") Status.NoMemory result
+        (sink_state (O.written out.old) (O.faults out.old) (O.refusals out.old))
+        (sink_state (O.written out.new) (O.faults out.new) (O.refusals out.new)) }
 {
-    let Some(command) = Command::of(words) else {
-        return Due::of(alloc, Status::Usage, b"usage\n");
-    };
-    match read_whole(alloc, shelf, command.instance_file(), MAX_INSTANCE_BYTES) {
-        Ok(bytes) => answer(alloc, command, &bytes, shelf),
-        Err(ReadWhole::Failed) => Due::of(alloc, Status::ReadFault, b"read fault\n"),
-        Err(ReadWhole::TooLong) => Due::of(alloc, Status::TooLarge, b"too large instance\n"),
-        Err(ReadWhole::NoMemory) => Err(NoMemory),
+    match text(alloc, reply) {
+        Ok(text) => print(out, reply.status(), &text),
+        Err(NoMemory) => print(out, Status::NoMemory, b"no memory\n"),
     }
 }
 
-/// Prints a text, and answers the status that the run then has.
-fn print<O: Sink>(out: &mut O, status: Status, text: &[u8]) -> Status
-    ensures { Prints (Rose (O.faults out.old) (O.faults out.new)) status text.now result (O.written out.old) (O.written out.new) }
+// Prints a text, and answers the status that the run then has.
+fn print<O: Sink>(out: &mut O, due: Status, text: &[u8]) -> Status
+    ensures { IsPrinted text.now due result
+        (sink_state (O.written out.old) (O.faults out.old) (O.refusals out.old))
+        (sink_state (O.written out.new) (O.faults out.new) (O.refusals out.new)) }
 {
     match write_whole(out, text) {
-        Ok(()) => status,
+        Ok(()) => due,
+        Err(SinkFault::Failed) => due.when_cut(),
         Err(SinkFault::NoMemory) => Status::NoMemory,
-        Err(SinkFault::Failed) if status == Status::Done || status == Status::CheckNo => {
-            Status::WriteFault
-        }
-        Err(SinkFault::Failed) => status,
     }
 }

@@ -1,5 +1,5 @@
 ghost use Rattle.std.specs.Prelude.{◌≡◌};
-ghost use Rattle.dualoc_cli.specs.Status.{number_of};
+ghost use Rattle.dualoc_cli.specs.Status.{number_of, when_cut};
 
 /// How a run ended.
 #[derive(Clone, Copy, Debug, PartialEq, Eq)]
@@ -32,5 +32,18 @@ impl Status {
         ensures { result ≡ number_of self }
     {
         self as u8
+    }
+
+    /// The status of a run where a write of the text that is due with this one failed: a result that
+    /// isn't printed whole is none.
+    pub(crate) fn when_cut(self) -> Status
+        ensures { result ≡ when_cut self }
+    {
+        match self {
+            Status::Done | Status::Infeasible | Status::Bracket | Status::CheckNo => {
+                Status::WriteFault
+            }
+            _ => self,
+        }
     }
 }

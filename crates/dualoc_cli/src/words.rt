@@ -1,15 +1,52 @@
 ghost use Rattle.std.specs.Prelude.{◌≡◌, [], ◌∷◌, map, string_bytes};
 ghost use Rattle.std.specs.Option.{option_map};
-ghost use Rattle.dualoc_cli.specs.Command.{command_of, instance_file};
+ghost use Rattle.dualoc_cli.specs.Command.{command_of, form_of};
 ghost use Rattle.dualoc_cli.specs.Step.{asked};
+
+/// A form of instance files.
+#[derive(Clone, Copy, Debug, PartialEq, Eq)]
+pub enum FileForm {
+    /// The simple format of UflLib.
+    Ufl,
+}
+
+impl FileForm {
+    /// The form that a word names.
+    pub fn of(word: &str) -> Option<FileForm>
+        ensures { result ≡ form_of word.now }
+    {
+        if word == "ufl" {
+            Some(FileForm::Ufl)
+        } else {
+            None
+        }
+    }
+}
+
+/// Where the instance of a command comes from.
+#[derive(Clone, Copy)]
+pub struct Source<'a> {
+    pub form: FileForm,
+    /// The name of the file.
+    pub file: &'a str,
+    /// The amount of the option `capacity`, in millionths, where it is there.
+    pub given: Option<u64>,
+}
+
+/// What is to be done with the instance.
+#[derive(Clone, Copy)]
+pub enum Job<'a> {
+    /// To solve it by a walk over all sets of sites, and to print the plan.
+    SolveShort,
+    /// To check the certificate in the file of this name against it.
+    Check(&'a str),
+}
 
 /// What the words of a command line ask for.
 #[derive(Clone, Copy)]
-pub enum Command<'a> {
-    /// To solve the instance of this file, and to print the plan.
-    SolveShort(&'a str),
-    /// To check a certificate against the instance of another file.
-    Check { file: &'a str, certificate: &'a str },
+pub struct Command<'a> {
+    pub source: Source<'a>,
+    pub job: Job<'a>,
 }
 
 impl<'a> Command<'a> {
@@ -28,15 +65,19 @@ impl<'a> Command<'a> {
             _ => None,
         }
     }
+}
 
-    /// The file of the command's instance.
-    pub fn instance_file(self) -> &'a str
-        ensures { result.now ≡ instance_file (asked self.entry) }
-    {
-        match self {
-            Command::SolveShort(file) => file,
-            Command::Check { file, .. } => file,
-        }
+// A command without options.
+fn plain<'a>(job: Job<'a>, file: &'a str, form: FileForm) -> Command<'a>
+    ensures { asked result ≡ plain_command (asked_job job.entry) file.now form }
+{
+    Command {
+        source: Source {
+            form,
+            file,
+            given: None,
+        },
+        job,
     }
 }
 
@@ -44,7 +85,7 @@ fn solve<'a>(verb: &str, form: &str, file: &'a str) -> Option<Command<'a>>
     ensures { option_map asked result ≡ command_of (verb.now ∷ form.now ∷ file.now ∷ []) }
 {
     if verb == "solve" && form == "ufl" && !file.is_empty() {
-        Some(Command::SolveShort(file))
+        Some(plain(Job::SolveShort, file, FileForm::Ufl))
     } else {
         None
     }
@@ -53,9 +94,10 @@ fn solve<'a>(verb: &str, form: &str, file: &'a str) -> Option<Command<'a>>
 fn check<'a>(verb: &str, form: &str, file: &'a str, certificate: &'a str) -> Option<Command<'a>>
     ensures { option_map asked result ≡ command_of (verb.now ∷ form.now ∷ file.now ∷ certificate.now ∷ []) }
 {
-    let named = !file.is_empty() && !certificate.is_empty() && file != certificate;
-    if verb == "check" && form == "ufl" && named {
-        Some(Command::Check { file, certificate })
+    let named = !file.is_empty() && file != certificate && !certificate.is_empty();
+    if verb == "check" && named {
+        let form = FileForm::of(form)?;
+        Some(plain(Job::Check(certificate), file, form))
     } else {
         None
     }

@@ -1,0 +1,48 @@
+-- What a run answers: the status of a reply, and its text.
+use Rattle.std.specs.Prelude.{ℕ, List, ◌++◌, Some, codes, decimal}
+use Rattle.location_terms.specs.declared.claim.Claim.TheVariants.{Optimal}
+use Rattle.fixed_cost.specs.Faults.{fault_text}
+use Rattle.fixed_cost.specs.Print.{micro_text}
+use Rattle.number_words.specs.Number.{number_text}
+use Rattle.plan_meaning.specs.PlanFault.{fault_name}
+use Rattle.report.specs.PlanText.{claim_line, plan_text_of}
+use Rattle.certificate_lines.specs.Kind.{kind_name}
+use Rattle.certificate_check.specs.declared.verdict.Why.{Why}
+use Rattle.certificate_check.specs.declared.verdict.Why.TheVariants.{PlanRefused, CostDiffers, LeafOpen}
+use Rattle.certificate_check.specs.declared.verdict.Verdict.TheVariants.{Yes, No}
+use Rattle.dualoc_cli.specs.declared.status.Status.{Status}
+use Rattle.dualoc_cli.specs.declared.status.Status.TheVariants.{Done, CheckNo, Usage, BadInput, ReadFault, TooLarge}
+use Rattle.dualoc_cli.specs.declared.reply.Reply.{Reply}
+use Rattle.dualoc_cli.specs.declared.reply.Reply.TheVariants.{NoCommand, InstanceUnread, LongInstance, Faulty, ManySites, Optimum, CertificateUnread, LongCertificate, Misspelt, Judged}
+
+abbrev pub status_of : Reply → Status
+status_of NoCommand = Usage
+status_of InstanceUnread = ReadFault
+status_of LongInstance = TooLarge
+status_of (Faulty fault) = BadInput
+status_of ManySites = TooLarge
+status_of (Optimum I P cost) = Done
+status_of CertificateUnread = ReadFault
+status_of LongCertificate = TooLarge
+status_of (Misspelt kind line) = CheckNo
+status_of (Judged (Yes claim)) = Done
+status_of (Judged (No line why)) = CheckNo
+
+-- what speaks against a certificate, with its line
+abbrev pub why_text : ℕ → Why → List ℕ
+why_text line (PlanRefused fault) = codes "PlanRefused line " ++ decimal line ++ codes " " ++ fault_name fault
+why_text line (CostDiffers found) = codes "CostDiffers line " ++ decimal line ++ codes " found " ++ micro_text found
+why_text line (LeafOpen bound q) = codes "LeafOpen line " ++ decimal line ++ codes " bound " ++ number_text bound ++ codes " scale " ++ decimal q
+
+abbrev pub text_of : Reply → List ℕ
+text_of NoCommand = codes "usage\n"
+text_of InstanceUnread = codes "read fault\n"
+text_of LongInstance = codes "too large instance\n"
+text_of (Faulty fault) = codes "bad input " ++ fault_text fault ++ codes "\n"
+text_of ManySites = codes "too large sites\n"
+text_of (Optimum I P cost) = plan_text_of I (Optimal cost) (Some P)
+text_of CertificateUnread = codes "read fault\n"
+text_of LongCertificate = codes "too large certificate\n"
+text_of (Misspelt kind line) = codes "no " ++ kind_name kind ++ codes " line " ++ decimal line ++ codes "\n"
+text_of (Judged (Yes claim)) = codes "yes " ++ claim_line claim
+text_of (Judged (No line why)) = codes "no " ++ why_text line why ++ codes "\n"

@@ -1,0 +1,49 @@
+ghost use Rattle.std.specs.Prelude.{◌≡◌};
+ghost use Rattle.dualoc_cli.specs.Reply.{status_of};
+
+use crate::status::Status;
+use certificate_check::{CertKind, Verdict};
+use fixed_cost::FileFault;
+use instance_store::Instance;
+use plan_meaning::Plan;
+
+/// What a run answers. `docs/FORMATS.md` has the texts.
+#[derive(Drop)]
+pub enum Reply {
+    /// The words are no command.
+    NoCommand,
+    /// A read of the instance's file failed.
+    InstanceUnread,
+    /// The instance's file is longer than the limit.
+    LongInstance,
+    /// The first fault of the instance's file.
+    Faulty(FileFault),
+    /// The instance has more sites than the walk over all sets of sites takes.
+    ManySites,
+    /// An optimal plan of the instance, and its cost in millionths.
+    Optimum(Instance, Plan, u64),
+    /// A read of the certificate's file failed.
+    CertificateUnread,
+    /// Nothing is decided by the first bytes of the certificate's file, up to the limit, and more follow.
+    LongCertificate,
+    /// The first fault of the certificate's text, and its line, counted from 1.
+    Misspelt(CertKind, u64),
+    /// The verdict on the certificate.
+    Judged(Verdict),
+}
+
+impl Reply {
+    /// The status of a run that ends with this reply, all of it printed.
+    pub fn status(&self) -> Status
+        ensures { result ≡ status_of self.now }
+    {
+        match self {
+            Reply::NoCommand => Status::Usage,
+            Reply::Faulty(_) => Status::BadInput,
+            Reply::InstanceUnread | Reply::CertificateUnread => Status::ReadFault,
+            Reply::LongInstance | Reply::ManySites | Reply::LongCertificate => Status::TooLarge,
+            Reply::Optimum(..) | Reply::Judged(Verdict::Yes(_)) => Status::Done,
+            Reply::Misspelt(..) | Reply::Judged(Verdict::No { .. }) => Status::CheckNo,
+        }
+    }
+}

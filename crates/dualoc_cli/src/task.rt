@@ -1,0 +1,129 @@
+//! What a run answers to its words.
+ghost use Rattle.std.specs.Prelude.{◌≡◌, ◌≤◌, IfOk, length, map, string_bytes};
+ghost use Rattle.shelf_port.specs.Files.{NeverFalls};
+ghost use Rattle.shelf_port.specs.Ports.{shelf_state};
+ghost use Rattle.location_terms.specs.Instance.{IsValid};
+ghost use Rattle.location_terms.specs.Plain.{IsPlain};
+ghost use Rattle.fixed_cost.specs.Reading.{Means};
+ghost use Rattle.dualoc_cli.specs.Command.{SolveShort, Check, command_of, meaning_of};
+ghost use Rattle.dualoc_cli.specs.Due.{Run, AsksFor, HasTask, IsCause};
+ghost use Rattle.dualoc_cli.specs.Step.{asked, asked_job, Covers};
+
+use crate::limits::MAX_INSTANCE_BYTES;
+use crate::reply::Reply;
+use crate::words::{Command, FileForm, Job, Source};
+use certificate_check::{CertFault, check};
+use fixed_cost::FormFault;
+use instance_store::{Instance, NoMemory};
+use set_walk::{MAX_WALK_SITES, cheapest_plan};
+use shelf_port::{ReadWhole, Shelf, read_whole};
+use std::alloc::Global;
+
+/// What is answered to the words of a command line. The files are only read.
+pub fn reply_to<H: Shelf>(
+    alloc: Global,
+    words: &[String],
+    shelf: &mut H,
+) -> Result<Reply, NoMemory>
+    ensures cause { IfOk result (λ reply. (r : Run) → r.words ≡ map string_bytes words.now →
+        Covers r (shelf_state (H.files shelf.old) (H.read_faults shelf.old) (H.write_faults shelf.old))
+        (shelf_state (H.files shelf.new) (H.read_faults shelf.new) (H.write_faults shelf.new)) →
+        IsCause r reply) }
+    ensures files { H.files shelf.new ≡ H.files shelf.old }
+{
+    match Command::of(words) {
+        Some(command) => answer(alloc, command, shelf),
+        None => Ok(Reply::NoCommand),
+    }
+}
+
+// What is answered to a command.
+fn answer<H: Shelf>(
+    alloc: Global,
+    command: Command<'_>,
+    shelf: &mut H,
+) -> Result<Reply, NoMemory>
+    ensures cause { IfOk result (λ reply. (r : Run) → command_of r.words ≡ Some (asked command.entry) →
+        Covers r (shelf_state (H.files shelf.old) (H.read_faults shelf.old) (H.write_faults shelf.old))
+        (shelf_state (H.files shelf.new) (H.read_faults shelf.new) (H.write_faults shelf.new)) →
+        IsCause r reply) }
+    ensures files { H.files shelf.new ≡ H.files shelf.old }
+{
+    let Command { source, job } = command;
+    match read_whole(alloc, shelf, source.file, MAX_INSTANCE_BYTES) {
+        Ok(bytes) => match read(alloc, source, &bytes) {
+            Ok(inst) => work(alloc, job, inst, shelf),
+            Err(FormFault::File(fault)) => Ok(Reply::Faulty(fault)),
+            Err(FormFault::NoMemory) => Err(NoMemory),
+        },
+        Err(ReadWhole::Failed) => Ok(Reply::InstanceUnread),
+        Err(ReadWhole::TooLong) => Ok(Reply::LongInstance),
+        Err(ReadWhole::NoMemory) => Err(NoMemory),
+    }
+}
+
+// The instance that the bytes of a command's file mean, or their first fault.
+fn read(alloc: Global, source: Source<'_>, bytes: &[u8]) -> Result<Instance, FormFault>
+    requires { length bytes.now ≤ MAX_INSTANCE_BYTES }
+    ensures meaning { Means (λ inst. inst) result (meaning_of source.entry.form source.entry.given bytes.now) }
+    ensures valid { IfOk result IsValid }
+    ensures plain { IfOk result IsPlain }
+{
+    match source.form {
+        FileForm::Ufl => ufllib_read::read(alloc, bytes),
+    }
+}
+
+// What is answered to an instance.
+fn work<H: Shelf>(
+    alloc: Global,
+    job: Job<'_>,
+    inst: Instance,
+    shelf: &mut H,
+) -> Result<Reply, NoMemory>
+    requires { IsPlain inst }
+    ensures cause { IfOk result (λ reply. (r : Run) → HasTask r (asked_job job.entry) inst →
+        Covers r (shelf_state (H.files shelf.old) (H.read_faults shelf.old) (H.write_faults shelf.old))
+        (shelf_state (H.files shelf.new) (H.read_faults shelf.new) (H.write_faults shelf.new)) →
+        IsCause r reply) }
+    ensures files { H.files shelf.new ≡ H.files shelf.old }
+    ensures reads { NeverFalls (H.read_faults shelf.old) (H.read_faults shelf.new) }
+{
+    match job {
+        Job::SolveShort => solve(alloc, inst),
+        Job::Check(certificate) => judge(alloc, &inst, shelf, certificate),
+    }
+}
+
+fn solve(alloc: Global, inst: Instance) -> Result<Reply, NoMemory>
+    requires { IsPlain inst }
+    ensures { IfOk result (λ reply. (r : Run) → HasTask r SolveShort inst → IsCause r reply) }
+{
+    if inst.sites() > MAX_WALK_SITES {
+        return Ok(Reply::ManySites);
+    }
+    let best = cheapest_plan(alloc, &inst)?;
+    Ok(Reply::Optimum(inst, best.plan, best.cost))
+}
+
+fn judge<H: Shelf>(
+    alloc: Global,
+    inst: &Instance,
+    shelf: &mut H,
+    certificate: &str,
+) -> Result<Reply, NoMemory>
+    ensures cause { IfOk result (λ reply. (r : Run) → HasTask r (Check certificate.now) inst.now →
+        Covers r (shelf_state (H.files shelf.old) (H.read_faults shelf.old) (H.write_faults shelf.old))
+        (shelf_state (H.files shelf.new) (H.read_faults shelf.new) (H.write_faults shelf.new)) →
+        IsCause r reply) }
+    ensures files { H.files shelf.new ≡ H.files shelf.old }
+    ensures reads { NeverFalls (H.read_faults shelf.old) (H.read_faults shelf.new) }
+{
+    match check(alloc, inst, shelf, certificate) {
+        Ok(verdict) => Ok(Reply::Judged(verdict)),
+        Err(CertFault::Text { kind, line }) => Ok(Reply::Misspelt(kind, line)),
+        Err(CertFault::TooLong) => Ok(Reply::LongCertificate),
+        Err(CertFault::ReadFailed) => Ok(Reply::CertificateUnread),
+        Err(CertFault::NoMemory) => Err(NoMemory),
+    }
+}
