@@ -1,316 +1,270 @@
--- What a run does, from what is due and what comes of printing it.
-use Rattle.std.proofs.Common.{◌≡◌, ◌⊎◌, ℕ, ◌+◌, ◌<◌, ◌≤◌, List, [], ◌++◌, length, take, Option, None, Some, Result, Ok, Err, codes, sym, refl, ap, ◌∙◌, subst, inl, inr, arith, false}
-use Rattle.std.specs.Prelude.{nat_lt, IsSomeAnd, IfOk, IsTrue, replicate, if◌then◌else◌}
+-- What follows from how a run ends.
+use Rattle.std.proofs.Common.{◌≡◌, ◌≢◌, ◌⊎◌, ℕ, ◌<◌, ◌≤◌, List, length, Option, None, Some, Result, Ok, Err, sym, refl, ap, ◌∙◌, subst, inl, inr, arith, codes}
+use Rattle.std.specs.Prelude.{if◌then◌else◌, nat_lt, false}
 use Rattle.std.specs.FinMap.{get}
-use Rattle.std.proofs.lemmas.Bool.{lt-ltb, cond-true, cond-false, false_from_ne_true, ltb-true, false≢true}
-use Rattle.std.proofs.lemmas.List.{take-append-le, take_all, length-append, length-replicate}
-use Rattle.shelf_port.specs.Files.{Files, HasFile, Rose, NeverFalls}
+use Rattle.std.proofs.lemmas.Bool.{lt-ltb, cond-true, cond-false, false_from_ne_true, ltb-true}
+use Rattle.shelf_port.specs.Files.{Files, MayHold, Rose}
 use Rattle.shelf_port.specs.Streams.{with_back}
+use Rattle.shelf_port.specs.Ports.{Ports}
 use Rattle.location_terms.specs.Instance.{Instance}
 use Rattle.fixed_cost.specs.declared.fault.FileFault.{FileFault}
-use Rattle.ufllib_read.specs.Ufl.{ufl_meaning}
 use Rattle.set_walk.specs.declared.TheConstants.{MAX_WALK_SITES}
+use Rattle.certificate_lines.specs.declared.limits.TheConstants.{MAX_CERTIFICATE_BYTES}
+use Rattle.certificate_lines.specs.declared.fault.CertFault.TheVariants.{Text, TooLong, ReadFailed}
+use Rattle.certificate_lines.specs.declared.fault.CertFault.TheVariants as unread
+use Rattle.certificate_check.specs.declared.verdict.Verdict.TheVariants.{Yes, No}
+use Rattle.certificate_check.specs.Verdict.{Answer, IsAnswer}
+use Rattle.certificate_check.proofs.One.{one_answer}
+use Rattle.certificate_lines.specs.Text.{certificate_text}
+use Rattle.location_terms.specs.declared.claim.Claim.{Claim}
 use Rattle.dualoc_cli.specs.declared.limits.TheConstants.{MAX_INSTANCE_BYTES}
 use Rattle.dualoc_cli.specs.declared.status.Status.{Status}
 use Rattle.dualoc_cli.specs.declared.status.Status.TheVariants.{Done, Infeasible, Bracket, CheckNo, Usage, BadInput, ReadFault, WriteFault, TooLarge, NoMemory}
-use Rattle.certificate_check.specs.declared.verdict.Verdict.TheVariants.{Yes, No}
-use Rattle.certificate_lines.specs.declared.fault.CertFault.TheVariants.{Text, TooLong}
-use Rattle.certificate_check.specs.Verdict.{Answer, IsAnswer}
-use Rattle.certificate_lines.specs.declared.limits.TheConstants.{MAX_CERTIFICATE_BYTES}
-use Rattle.dualoc_cli.specs.Command.{Command, SolveShort, Check, instance_file, command_of}
-use Rattle.dualoc_cli.specs.Said.{IsSaid, HasStatus}
-use Rattle.dualoc_cli.specs.Due.{Setting, setting_of, IsNoCommand, MayHold, AsksFor, AnswersFile, IsJudged, IsSolved, MayAnswer, IsDueFirst, IsDue, IsTold, HasReadFault, MeantStatus, StatusFor, Runs, is_result, refused, Prints}
-use Rattle.dualoc_cli.specs.Step.{AnswersCertificate, Answers}
+use Rattle.dualoc_cli.specs.declared.reply.Reply.{Reply}
+use Rattle.dualoc_cli.specs.declared.reply.Reply.TheVariants.{NoCommand, InstanceUnread, LongInstance, Faulty, ManySites, Optimum, CertificateUnread, LongCertificate, Misspelt, Judged}
+use Rattle.dualoc_cli.specs.Command.{Command, OnFile, InstanceFile, Job, SolveShort, Check, command_of, meaning_in}
+use Rattle.dualoc_cli.specs.Status.{when_cut}
+use Rattle.dualoc_cli.specs.Reply.{status_of, text_of}
+use Rattle.dualoc_cli.specs.Due.{Run, AsksFor, HasTask, InstanceFails, CertificateFails, HasManySites, HasFault, IsAnswered, IsConfirmed, IsCause, PrintsWhole, PrintsFront, Ends, Keeps, Leaves, ChangesNothing, IsTold, IsHindered, MemoryRanOut, InstanceFailed, CertificateFailed, OutputFailed, EndsAs, DeservesYes, IsComplete, Runs}
+
+pub leaves : (asked : Option Command) (before after : Ports) → ChangesNothing before after → Leaves asked before after
+leaves None before after same = same
+leaves (Some (OnFile file job)) before after same =
+    elim job as (λ job. Keeps job before after) [ SolveShort ↦ same | Check certificate ↦ same ]
+
+-- a status after a write that failed is no result
+not_done : (due : Status) → Done ≡ when_cut due → ⊥
+not_done Done e = cc
+not_done Infeasible e = cc
+not_done Bracket e = cc
+not_done CheckNo e = cc
+not_done Usage e = cc
+not_done BadInput e = cc
+not_done ReadFault e = cc
+not_done WriteFault e = cc
+not_done TooLarge e = cc
+not_done NoMemory e = cc
+
+-- the status of an answer to a certificate
+status_in : Answer → Status
+status_in (Ok (Yes claim)) = Done
+status_in (Ok (No line why)) = CheckNo
+status_in (Err (Text kind line)) = CheckNo
+status_in (Err TooLong) = TooLarge
+status_in (Err ReadFailed) = ReadFault
+status_in (Err unread.NoMemory) = NoMemory
 
 not_above : (a b : ℕ) → a ≤ b → nat_lt b a ≡ false
 not_above a b h = false_from_ne_true (nat_lt b a) (λ e. let above : b < a = ltb-true b a e in omega arith)
 
--- a told file holds one list of bytes
-same_bytes : (told : Option Files) (files : Files) (f g bytes other : List ℕ) → told ≡ Some files → get files f ≡ Some bytes → g ≡ f → MayHold told g other → other ≡ bytes
-same_bytes told files f g bytes other is held same may =
-    let there : get files g ≡ Some other = subst (λ t. MayHold t g other) is may in
-    let here : get files g ≡ Some bytes = ap (get files) same ∙ held in
-    cc
+not_memory : Done ≡ NoMemory → ⊥
+not_memory e = cc
 
--- a status with which no file is answered
-abbrev IsOther : Status → Type 0
-IsOther Done = ⊥
-IsOther CheckNo = ⊥
-IsOther BadInput = ⊥
-IsOther TooLarge = ⊥
-IsOther status = Unit {0}
+module _ (r : Run) where
+  no_command : (command : Command) → command_of r.words ≡ None → command_of r.words ≡ Some command → ⊥
+  no_command command none some = let e : None ≡ Some command = sym none ∙ some in cc
 
-no_other_said : (answer : Answer) (status : Status) (text : List ℕ) → IsOther status → IsSaid answer status text → ⊥
-no_other_said (Ok (Yes claim)) Done text other said = other
-no_other_said (Ok (Yes claim)) _ text other said = said
-no_other_said (Ok (No line why)) CheckNo text other said = other
-no_other_said (Ok (No line why)) _ text other said = said
-no_other_said (Err (Text kind line)) CheckNo text other said = other
-no_other_said (Err (Text kind line)) _ text other said = said
-no_other_said (Err TooLong) TooLarge text other said = other
-no_other_said (Err TooLong) _ text other said = said
-no_other_said (Err _) _ text other said = said
+  task_words : {S : Type 0} (job : Job) (I : Instance) → HasTask r job I → S ⊎ ((command : Command) × (command_of r.words ≡ Some command))
+  task_words job I task = inr (OnFile task.file job, task.asked.words_are)
 
-no_other_solved : (I : Instance) (status : Status) (text : List ℕ) → IsOther status → IsSolved I status text → ⊥
-no_other_solved I Done text other solved = other
-no_other_solved I TooLarge text other solved = other
-no_other_solved I _ text other solved = solved
+  -- a reply is to a command, but for the one to words that are none
+  words_are : (reply : Reply) → IsCause r reply → (status_of reply ≡ Usage) ⊎ ((command : Command) × (command_of r.words ≡ Some command))
+  words_are NoCommand cause = inl refl
+  words_are InstanceUnread cause = inr (OnFile cause.file cause.job, cause.words_are)
+  words_are LongInstance cause = inr (OnFile cause.file cause.job, cause.asked.words_are)
+  words_are (Faulty fault) cause = inr (OnFile cause.file cause.job, cause.asked.words_are)
+  words_are ManySites cause = task_words SolveShort cause.instance cause.task
+  words_are (Optimum I P cost) cause = task_words SolveShort I cause.task
+  words_are CertificateUnread cause = task_words (Check cause.name) cause.instance cause.task
+  words_are LongCertificate cause = task_words (Check cause.name) cause.instance cause.task
+  words_are (Misspelt kind line) cause = task_words (Check cause.name) cause.instance cause.task
+  words_are (Judged (Yes claim)) cause = task_words (Check cause.name) cause.instance cause.task
+  words_are (Judged (No line why)) cause = task_words (Check cause.name) cause.instance cause.task
 
-no_other_fault : (s : Setting) (command : Command) (fault : FileFault) (status : Status) (text : List ℕ) → IsOther status → MayAnswer s command (Err fault) status text → ⊥
-no_other_fault s command fault BadInput text other may = other
-no_other_fault s command fault _ text other may = may
+  -- the status that is due for an instance
+  abbrev Worked : Job → Instance → Status → Type 0
+  Worked SolveShort I status = status ≡ (if nat_lt MAX_WALK_SITES (length I.sites) then TooLarge else Done)
+  Worked (Check name) I status =
+      (bytes : List ℕ) × MayHold r.before.shelf.files name bytes × ((answer : Answer) × IsAnswer MAX_CERTIFICATE_BYTES I bytes answer × (status ≡ status_in answer))
 
-no_other : (s : Setting) (command : Command) (meaning : Result Instance FileFault) (status : Status) (text : List ℕ) → IsOther status → MayAnswer s command meaning status text → ⊥
-no_other s (SolveShort file) (Ok I) status text other may = no_other_solved I status text other may
-no_other s (Check file certificate) (Ok I) status text other may = no_other_said may.answer status text other may.says
-no_other s command (Err fault) status text other may = no_other_fault s command fault status text other may
+  abbrev Meant : Job → Result Instance FileFault → Status → Type 0
+  Meant job (Ok I) status = Worked job I status
+  Meant job (Err fault) status = status ≡ BadInput
 
--- what is said has its status
-said_status : (answer : Answer) (status : Status) (text : List ℕ) → IsSaid answer status text → HasStatus answer status
-said_status (Ok (Yes claim)) Done text said = refl
-said_status (Ok (Yes claim)) _ text said = absurd said
-said_status (Ok (No line why)) CheckNo text said = refl
-said_status (Ok (No line why)) _ text said = absurd said
-said_status (Err (Text kind line)) CheckNo text said = refl
-said_status (Err (Text kind line)) _ text said = absurd said
-said_status (Err TooLong) TooLarge text said = refl
-said_status (Err TooLong) _ text said = absurd said
-said_status (Err _) _ text said = absurd said
+  -- the status that is due for the bytes of an instance's file
+  abbrev Read : InstanceFile → Job → List ℕ → Status → Type 0
+  Read file job bytes status =
+      ((MAX_INSTANCE_BYTES < length bytes) × (status ≡ TooLarge))
+      ⊎ ((length bytes ≤ MAX_INSTANCE_BYTES) × Meant job (meaning_in file bytes) status)
 
-solved_status : (I : Instance) (status : Status) (text : List ℕ) → IsSolved I status text → status ≡ (if nat_lt MAX_WALK_SITES (length I.sites) then TooLarge else Done)
-solved_status I Done text a = sym (cond-false (nat_lt MAX_WALK_SITES (length I.sites)) TooLarge Done (not_above (length I.sites) MAX_WALK_SITES a.few))
-solved_status I TooLarge text a = sym (cond-true (nat_lt MAX_WALK_SITES (length I.sites)) TooLarge Done (lt-ltb MAX_WALK_SITES (length I.sites) a.many))
-solved_status I _ text a = absurd a
+  -- the status that is due for the words, where nothing fails
+  abbrev IsDue : Status → Type 0
+  IsDue status =
+      ((command_of r.words ≡ None) × (status ≡ Usage))
+      ⊎ ((file : InstanceFile) × (job : Job) × (bytes : List ℕ) × AsksFor r file job bytes × Read file job bytes status)
 
--- an answer has the status that is due for the meaning
-answer_status : (s : Setting) (command : Command) (meaning : Result Instance FileFault) (status : Status) (text : List ℕ) → MayAnswer s command meaning status text → MeantStatus s command meaning status
-answer_status s (SolveShort file) (Ok I) status text a = solved_status I status text a
-answer_status s (Check file certificate) (Ok I) status text a = (a.answer, a.told, said_status a.answer status text a.says)
-answer_status s command (Err fault) BadInput text a = refl
-answer_status s command (Err fault) _ text a = absurd a
+  abbrev ReadFails : Type 0
+  ReadFails = InstanceFails r ⊎ CertificateFails r
 
--- what a read told of a file, as what the file may hold
-read_bytes : (found : Option (List ℕ)) (bytes : List ℕ) → IsSomeAnd found (λ file. bytes ≡ file) → found ≡ Some bytes
-read_bytes None bytes h = absurd h
-read_bytes (Some file) bytes h = ap Some (sym h)
+  meant : (job : Job) (meaning : Result Instance FileFault) (I : Instance) (status : Status) → meaning ≡ Ok I → Worked job I status → Meant job meaning status
+  meant job meaning I status means worked = subst (λ m. Meant job m status) (sym means) worked
 
-pub may_hold : (told : Option Files) (name bytes : List ℕ) → HasFile told name (λ file. bytes ≡ file) → MayHold told name bytes
-may_hold None name bytes h = tt
-may_hold (Some files) name bytes h = read_bytes (get files name) bytes h
+  -- what is due for a job on an instance is due
+  task_is_due : (job : Job) (I : Instance) (status : Status) → HasTask r job I → Worked job I status → IsDue status
+  task_is_due job I status task worked =
+      inr (task.file, job, task.bytes, task.asked, inr (task.within, meant job _ I status task.means worked))
 
-longer : (n : ℕ) → (bytes : List ℕ) × (n < length bytes)
-longer n = (replicate (n + 1) 0, omega (arith, length-replicate {A = ℕ} (n + 1) 0))
+  answer_is_due : (answer : Answer) → IsAnswered r answer → IsDue (status_in answer)
+  answer_is_due answer a =
+      task_is_due (Check a.name) a.instance (status_in answer) a.task (a.bytes, a.held, (answer, a.answered, refl))
 
-long_bytes : (n : ℕ) (found : Option (List ℕ)) → IsSomeAnd found (λ file. n < length file) → (bytes : List ℕ) × (found ≡ Some bytes) × (n < length bytes)
-long_bytes n None h = absurd h
-long_bytes n (Some file) h = (file, refl, h)
+  many_is_due : HasManySites r → IsDue TooLarge
+  many_is_due a =
+      task_is_due SolveShort a.instance TooLarge a.task
+      (sym (cond-true (nat_lt MAX_WALK_SITES (length a.instance.sites)) TooLarge Done (lt-ltb MAX_WALK_SITES (length a.instance.sites) a.many)))
 
--- a file that is told to be longer than n holds such bytes; one that is not told may
-may_hold_long : (n : ℕ) (told : Option Files) (name : List ℕ) → HasFile told name (λ file. n < length file) → (bytes : List ℕ) × MayHold told name bytes × (n < length bytes)
-may_hold_long n None name h = let long = longer n in (long.0, tt, long.1)
-may_hold_long n (Some files) name h = long_bytes n (get files name) h
+  few_is_due : (I : Instance) → HasTask r SolveShort I → length I.sites ≤ MAX_WALK_SITES → IsDue Done
+  few_is_due I task few =
+      task_is_due SolveShort I Done task
+      (sym (cond-false (nat_lt MAX_WALK_SITES (length I.sites)) TooLarge Done (not_above (length I.sites) MAX_WALK_SITES few)))
 
--- two things that hold of the value, if there is one
-pub both_ok : {T E : Type 0} (r : Result T E) (P Q R : T → Type 0) → ((x : T) → P x → Q x → R x) → IfOk r P → IfOk r Q → IfOk r R
-both_ok (Ok x) P Q R f p q = f x p q
-both_ok (Err e) P Q R f p q = tt
+  fault_is_due : (fault : FileFault) → HasFault r fault → IsDue BadInput
+  fault_is_due fault a =
+      inr (a.file, a.job, a.bytes, a.asked, inr (a.within, subst (λ m. Meant a.job m BadInput) (sym a.means) refl))
 
--- a count that rose over a part of the time rose over all of it
-rose_before : (a b c : ℕ) → a ≤ b → Rose b c → Rose a c
-rose_before a b c le rose = elim rose [ inl above ↦ inl (omega arith) | inr full ↦ inr full ]
+  -- an accepted certificate's yes is due
+  accepted_is_due : (I : Instance) (name : List ℕ) (cert : Certificate) → HasTask r (Check name) I → DeservesYes I cert
+      → MayHold r.before.shelf.files name (certificate_text I cert) → IsDue Done
+  accepted_is_due I name cert task deserved held =
+      task_is_due (Check name) I Done task
+      (certificate_text I cert, held, (Ok (Yes cert.claim), ?, refl))
 
-module _ (s of : Setting) (same : s.files ≡ of.files) (falls : (name : List ℕ) → of.reads_before name ≤ s.reads_before name) (after : s.reads_after ≡ of.reads_after) where
-  judged_in : (certificate : List ℕ) (I : Instance) (status : Status) (text : List ℕ) → IsJudged s certificate I status text → IsJudged of certificate I status text
-  judged_in certificate I status text j =
-      record { answer = j.answer; told = subst (λ files. HasFile files certificate (λ bytes. IsAnswer MAX_CERTIFICATE_BYTES I bytes j.answer)) same j.told; holds = j.holds; says = j.says }
+  -- a cause gives the status of its reply, or is a read that failed
+  cause_is_due : (reply : Reply) → IsCause r reply → IsDue (status_of reply) ⊎ (ReadFails × (status_of reply ≡ ReadFault))
+  unfolding status_in
+  cause_is_due NoCommand cause = inl (inl (cause, refl))
+  cause_is_due InstanceUnread cause = inr (inl cause, refl)
+  cause_is_due LongInstance cause = inl (inr (cause.file, cause.job, cause.bytes, cause.asked, inl (cause.beyond, refl)))
+  cause_is_due (Faulty fault) cause = inl (fault_is_due fault cause)
+  cause_is_due ManySites cause = inl (many_is_due cause)
+  cause_is_due (Optimum I P cost) cause = inl (few_is_due I cause.task cause.few)
+  cause_is_due CertificateUnread cause = inr (inr cause, refl)
+  cause_is_due LongCertificate cause = inl (answer_is_due (Err TooLong) cause)
+  cause_is_due (Misspelt kind line) cause = inl (answer_is_due (Err (Text kind line)) cause)
+  cause_is_due (Judged (Yes claim)) cause = inl (accepted_is_due cause.instance cause.name cause.cert cause.task cause.deserved cause.held)
+  cause_is_due (Judged (No line why)) cause = inl (answer_is_due (Ok (No line why)) cause)
 
-  certificate_in : (certificate : List ℕ) (I : Instance) (status : Status) (text : List ℕ) → AnswersCertificate s certificate I status text → AnswersCertificate of certificate I status text
-  certificate_in certificate I ReadFault text a =
-      (rose_before (of.reads_before certificate) (s.reads_before certificate) (of.reads_after certificate) (falls certificate) (subst (λ reads. Rose (s.reads_before certificate) (reads certificate)) after a.0), a.1)
-  certificate_in certificate I status text a = judged_in certificate I status text a
+  -- Where the files are told, one status is due.
+  module _ (told : IsTold r) where
+    same_bytes : (name a b : List ℕ) → MayHold r.before.shelf.files name a → MayHold r.before.shelf.files name b → a ≡ b
+    same_bytes name a b p q =
+        let here : get told.0 name ≡ Some a = subst (λ t. MayHold t name a) told.1 p in
+        let there : get told.0 name ≡ Some b = subst (λ t. MayHold t name b) told.1 q in
+        let both : Some a ≡ Some b = sym here ∙ there in
+        cc
 
-  -- what is answered in a part of a run is answered in the run
-  pub answers_in : (command : Command) (meaning : Result Instance FileFault) (status : Status) (text : List ℕ) → Answers s command meaning status text → Answers of command meaning status text
-  answers_in (SolveShort file) (Ok I) status text a = a
-  answers_in (SolveShort file) (Err fault) BadInput text a = a
-  answers_in (SolveShort file) (Err fault) _ text a = absurd a
-  answers_in (Check file certificate) (Ok I) status text a = certificate_in certificate I status text a
-  answers_in (Check file certificate) (Err fault) BadInput text a = a
-  answers_in (Check file certificate) (Err fault) _ text a = absurd a
+    worked_once : (job : Job) (I : Instance) (s t : Status) → Worked job I s → Worked job I t → s ≡ t
+    worked_once SolveShort I s t p q = p ∙ sym q
+    worked_once (Check name) I s t p q =
+        let same : q.0 ≡ p.0 = same_bytes name q.0 p.0 q.1 p.1 in
+        let once : p.2.0 ≡ q.2.0 = one_answer MAX_CERTIFICATE_BYTES I p.0 p.2.0 q.2.0 p.2.1 (subst (λ bytes. IsAnswer MAX_CERTIFICATE_BYTES I bytes q.2.0) same q.2.1) in
+        p.2.2 ∙ ap status_in once ∙ sym q.2.2
 
-module _ (s : Setting) where
-  never : (status : Status) (text : List ℕ) → IsOther status → AnswersFile s status text → ⊥
-  never status text other a = no_other s a.command (ufl_meaning a.bytes) status text other a.answer
+    meant_once : (job : Job) (meaning : Result Instance FileFault) (s t : Status) → Meant job meaning s → Meant job meaning t → s ≡ t
+    meant_once job (Ok I) s t p q = worked_once job I s t p q
+    meant_once job (Err fault) s t p q = p ∙ sym q
 
-  -- an answer to the file is due
-  answer_is_due : (status : Status) (text : List ℕ) → AnswersFile s status text → IsDueFirst s status text
-  answer_is_due Usage text a = absurd (never Usage text tt a)
-  answer_is_due ReadFault text a = absurd (never ReadFault text tt a)
-  answer_is_due TooLarge text a = inr a
-  answer_is_due status text a = a
+    read_once : (file : InstanceFile) (job : Job) (bytes : List ℕ) (s t : Status) → Read file job bytes s → Read file job bytes t → s ≡ t
+    read_once file job bytes s t (inl p) (inl q) = p.1 ∙ sym q.1
+    read_once file job bytes s t (inl p) (inr q) = absurd (omega (arith, p.0, q.0))
+    read_once file job bytes s t (inr p) (inl q) = absurd (omega (arith, p.0, q.0))
+    read_once file job bytes s t (inr p) (inr q) = meant_once job _ s t p.1 q.1
 
-  judged_is_due : (file certificate bytes : List ℕ) (I : Instance) (status : Status) (text : List ℕ) → AsksFor s (Check file certificate) bytes → length bytes ≤ MAX_INSTANCE_BYTES → ufl_meaning bytes ≡ Ok I → IsJudged s certificate I status text → IsDueFirst s status text
-  judged_is_due file certificate bytes I status text asked within means j =
-      answer_is_due status text (record { command = Check file certificate; bytes = bytes; asked = asked; within = within; answer = subst (λ m. MayAnswer s (Check file certificate) m status text) (sym means) j })
+    due_once : (s t : Status) → IsDue s → IsDue t → s ≡ t
+    due_once s t (inl p) (inl q) = p.1 ∙ sym q.1
+    due_once s t (inl p) (inr q) = absurd (no_command (OnFile q.0 q.1) p.0 q.3.words_are)
+    due_once s t (inr p) (inl q) = absurd (no_command (OnFile p.0 p.1) q.0 p.3.words_are)
+    due_once s t (inr p) (inr q) =
+        let both : Some (OnFile q.0 q.1) ≡ Some (OnFile p.0 p.1) = sym q.3.words_are ∙ p.3.words_are in
+        let file : q.0 ≡ p.0 = cc in
+        let job : q.1 ≡ p.1 = cc in
+        let bytes : q.2 ≡ p.2 = same_bytes p.0.name q.2 p.2 (subst (λ f. MayHold r.before.shelf.files f.name q.2) file q.3.held) p.3.held in
+        read_once p.0 p.1 p.2 s t p.4 (subst (λ b. Read p.0 p.1 b t) bytes (subst (λ j. Read p.0 j q.2 t) job (subst (λ f. Read f q.1 q.2 t) file q.4)))
 
-  -- so is the answer to a certificate's file, where a read of it may have failed
-  certificate_is_due : (file certificate bytes : List ℕ) (I : Instance) (status : Status) (text : List ℕ) → AsksFor s (Check file certificate) bytes → length bytes ≤ MAX_INSTANCE_BYTES → ufl_meaning bytes ≡ Ok I → AnswersCertificate s certificate I status text → IsDueFirst s status text
-  certificate_is_due file certificate bytes I ReadFault text asked within means a =
-      (inr (record { file = file; certificate = certificate; bytes = bytes; instance = I; asked = asked; within = within; means = means; rose = a.0 }), a.1)
-  certificate_is_due file certificate bytes I status text asked within means a = judged_is_due file certificate bytes I status text asked within means a
+    read_failed : (due status : Status) → ReadFails → status ≡ ReadFault → IsHindered r due status
+    read_failed due status fails is = elim fails [ inl a ↦ InstanceFailed a is | inr a ↦ CertificateFailed a is ]
 
-  answered : (command : Command) (bytes : List ℕ) (meaning : Result Instance FileFault) (status : Status) (text : List ℕ) → AsksFor s command bytes → length bytes ≤ MAX_INSTANCE_BYTES → ufl_meaning bytes ≡ meaning → MayAnswer s command meaning status text → IsDueFirst s status text
-  answered command bytes meaning status text asked within means a =
-      answer_is_due status text (record { command = command; bytes = bytes; asked = asked; within = within; answer = subst (λ m. MayAnswer s command m status text) (sym means) a })
-
-  meaning_is_due : (command : Command) (bytes : List ℕ) (meaning : Result Instance FileFault) (status : Status) (text : List ℕ) → AsksFor s command bytes → length bytes ≤ MAX_INSTANCE_BYTES → ufl_meaning bytes ≡ meaning → Answers s command meaning status text → IsDueFirst s status text
-  meaning_is_due (SolveShort file) bytes meaning status text asked within means a = answered (SolveShort file) bytes meaning status text asked within means a
-  meaning_is_due (Check file certificate) bytes (Ok I) status text asked within means a = certificate_is_due file certificate bytes I status text asked within means a
-  meaning_is_due (Check file certificate) bytes (Err fault) status text asked within means a = answered (Check file certificate) bytes (Err fault) status text asked within means a
-
-  -- so is the line for a file that is longer than the limit
-  pub too_long_is_due : (command : Command) (name : List ℕ) (status : Status) (text : List ℕ) → command_of s.words ≡ Some command → name ≡ instance_file command → HasFile s.files name (λ bytes. MAX_INSTANCE_BYTES < length bytes) → status ≡ TooLarge → text ≡ codes "too large instance\n" → IsDueFirst s status text
-  too_long_is_due command name status text is named told e says =
-      let long = may_hold_long MAX_INSTANCE_BYTES s.files name told in
-      subst (λ st. IsDueFirst s st text) (sym e)
-      (inl (record { command = command; bytes = long.0; asked = record { words_are = is; held = subst (λ n. MayHold s.files n long.0) named long.1 }; beyond = long.2; says = says }))
-
-  same_command : (a b : Command) → command_of s.words ≡ Some a → command_of s.words ≡ Some b → a ≡ b
-  same_command a b p q = let e : Some a ≡ Some b = sym p ∙ q in cc
-
-  told_bytes : (command of : Command) (bytes other : List ℕ) → AsksFor s of other → IsTold s command bytes → other ≡ bytes
-  told_bytes command of bytes other asked t =
-      same_bytes s.files t.files (instance_file command) (instance_file of) bytes other t.told t.held (ap instance_file (same_command of command asked.words_are t.words_are)) asked.held
-
-  file_status : (status : Status) (text : List ℕ) (command : Command) (bytes : List ℕ) → AnswersFile s status text → IsTold s command bytes → StatusFor s command bytes status
-  file_status status text command bytes a t =
-      let same : a.bytes ≡ bytes = told_bytes command a.command bytes a.bytes a.asked t in
-      let one : a.command ≡ command = same_command a.command command a.asked.words_are t.words_are in
-      let within : length bytes ≤ MAX_INSTANCE_BYTES = subst (λ (bs : List ℕ). length bs ≤ MAX_INSTANCE_BYTES) same a.within in
-      let has : MeantStatus s a.command (ufl_meaning a.bytes) status = answer_status s a.command (ufl_meaning a.bytes) status text a.answer in
-      let had : MeantStatus s command (ufl_meaning a.bytes) status = subst (λ c. MeantStatus s c (ufl_meaning a.bytes) status) one has in
-      inr (within, subst (λ (bs : List ℕ). MeantStatus s command (ufl_meaning bs) status) same had)
-
-  -- what is due first has the status that is due for the told bytes, or a read failed
-  first_status : (status : Status) (text : List ℕ) (command : Command) (bytes : List ℕ) → IsDueFirst s status text → IsTold s command bytes → StatusFor s command bytes status ⊎ HasReadFault s
-  first_status Usage text command bytes due t = let e : None ≡ Some command = sym due.0 ∙ t.words_are in absurd (cc)
-  first_status ReadFault text command bytes due t = inr due.0
-  first_status TooLarge text command bytes due t =
-      elim due [
-        | inl long ↦
-            let same : long.bytes ≡ bytes = told_bytes command long.command bytes long.bytes long.asked t in
-            inl (inl (subst (λ (bs : List ℕ). MAX_INSTANCE_BYTES < length bs) same long.beyond, refl))
-        | inr a ↦ inl (file_status TooLarge text command bytes a t)
-      ]
-  first_status status text command bytes due t = inl (file_status status text command bytes due t)
-
-  is_command : (command : Command) → command_of s.words ≡ Some command → IsNoCommand s.words → ⊥
-  is_command command is none = let e : Some command ≡ None = sym is ∙ none in cc
-
-  fails_no_command : HasReadFault s → IsNoCommand s.words → ⊥
-  fails_no_command fault none =
-      elim fault [ inl i ↦ is_command i.command i.words_are none | inr c ↦ is_command (Check c.file c.certificate) c.asked.words_are none ]
-
-  -- where the words are no command, that alone is due
-  first_usage : (status : Status) (text : List ℕ) → IsDueFirst s status text → IsNoCommand s.words → status ≡ Usage
-  first_usage Usage text due none = refl
-  first_usage ReadFault text due none = absurd (fails_no_command due.0 none)
-  first_usage TooLarge text due none =
-      elim due [ inl long ↦ absurd (is_command long.command long.asked.words_are none) | inr a ↦ absurd (is_command a.command a.asked.words_are none) ]
-  first_usage status text due none = absurd (is_command due.command due.asked.words_are none)
-
-  due_from_first : (failed : Type 0) (status : Status) (text : List ℕ) → IsDueFirst s status text → IsDue s failed status text
-  due_from_first failed WriteFault text due = absurd (never WriteFault text tt due)
-  due_from_first failed NoMemory text due = absurd (never NoMemory text tt due)
-  due_from_first failed status text due = due
-
-  -- A refused write turns the status of a result into that of a write fault, and no other. The results that no command gives yet are never due.
-  refused_is : (status : Status) (text : List ℕ) → IsDueFirst s status text → ((AnswersFile s Done text ⊎ AnswersFile s CheckNo text) × (refused status ≡ WriteFault)) ⊎ ((is_result status ≡ false) × (refused status ≡ status))
-  refused_is Done text due = inl (inl due, refl)
-  refused_is CheckNo text due = inl (inr due, refl)
-  refused_is Infeasible text due = absurd (never Infeasible text tt due)
-  refused_is Bracket text due = absurd (never Bracket text tt due)
-  refused_is Usage text due = inr (refl, refl)
-  refused_is BadInput text due = inr (refl, refl)
-  refused_is ReadFault text due = inr (refl, refl)
-  refused_is WriteFault text due = inr (refl, refl)
-  refused_is TooLarge text due = inr (refl, refl)
-  refused_is NoMemory text due = inr (refl, refl)
-
-  module _ (failed : Type 0) (old new : Option (List ℕ)) where
-    -- all of the text was written
-    whole_run : (status : Status) (text : List ℕ) → IsDueFirst s status text → new ≡ with_back old (take (length text) text) → Runs s failed status old new
-    whole_run status text due gained =
-        let all : new ≡ with_back old text = gained ∙ ap (with_back old) (take_all (length text) text (omega arith)) in
-        record {
-          ends = record { text = text; due = due_from_first failed status text due; gains = record { len = length text; front = omega arith; gained = gained; result = λ _. refl; whole = λ _ _. refl } };
-          done = λ e. (text, subst (λ st. IsDueFirst s st text) e due, all);
-          usage = λ none. inl (first_usage status text due none);
-          exact = λ command bytes t. elim (first_status status text command bytes due t) [ inl e ↦ inl e | inr r ↦ inr (inr (inl r)) ];
-        }
-
-    -- memory ran out, before or while a text was written
-    no_memory_run : (before : List ℕ) (len : ℕ) → (before ≡ []) ⊎ ((status : Status) × IsDueFirst s status before) → len ≤ length (before ++ codes "no memory\n") → new ≡ with_back old (take len (before ++ codes "no memory\n")) → Runs s failed NoMemory old new
-    no_memory_run before len was front gained =
-        record {
-          ends = record { text = before ++ codes "no memory\n"; due = (before, was, refl); gains = record { len = len; front = front; gained = gained; result = λ e. absurd (false≢true e); whole = λ _ lasts. absurd (lasts refl) } };
-          done = λ e. absurd (cc);
-          usage = λ _. inr refl;
-          exact = λ _ _ _. inr (inl refl);
-        }
-
-    -- a write failed while a text was written that is no result
-    cut_run : (status : Status) (text : List ℕ) (len : ℕ) → failed → is_result status ≡ false → IsDueFirst s status text → len ≤ length text → new ≡ with_back old (take len text) → Runs s failed status old new
-    cut_run status text len f other due front gained =
-        let no_result : IsTrue (is_result status) → ⊥ = subst (λ b. IsTrue b → ⊥) (sym other) (λ e. false≢true e) in
-        record {
-          ends = record { text = text; due = due_from_first failed status text due; gains = record { len = len; front = front; gained = gained; result = λ e. absurd (no_result e); whole = λ sound _. absurd (sound f) } };
-          done = λ e. absurd (no_result (ap is_result e));
-          usage = λ none. inl (first_usage status text due none);
-          exact = λ _ _ _. inr (inr (inr f));
-        }
-
-    -- a write failed while the text of a result was written
-    write_fault_run : (text : List ℕ) (len : ℕ) → failed → AnswersFile s Done text ⊎ AnswersFile s CheckNo text → len ≤ length text → new ≡ with_back old (take len text) → Runs s failed WriteFault old new
-    write_fault_run text len f due front gained =
-        record {
-          ends = record { text = text; due = (due, f); gains = record { len = len; front = front; gained = gained; result = λ e. absurd (false≢true e); whole = λ sound _. absurd (sound f) } };
-          done = λ e. absurd (cc);
-          usage = λ none. absurd (elim due [ inl a ↦ is_command a.command a.asked.words_are none | inr a ↦ is_command a.command a.asked.words_are none ]);
-          exact = λ _ _ _. inr (inr (inr f));
-        }
-
-    -- a text that was due with a status, and what came of printing it
-    pub printed_run : (status after : Status) (text : List ℕ) → IsDueFirst s status text → Prints failed status text after old new → Runs s failed after old new
-    printed_run status after text due p =
-        let Does : Status → Type 0 = λ st. Runs s failed st old new in
-        elim p.outcome [
-          | inl whole ↦ subst Does (sym whole.0) (whole_run status text due (p.gained ∙ ap (λ n. with_back old (take n text)) whole.1))
-          | inr cut ↦ elim cut [
-            | inl want ↦
-                subst Does (sym want)
-                (no_memory_run text p.len (inr (status, due)) (omega (arith, length-append text (codes "no memory\n"), p.front))
-                (p.gained ∙ ap (with_back old) (sym (take-append-le p.len text (codes "no memory\n") p.front))))
-            | inr fault ↦
-                elim (refused_is status text due) [
-                  | inl result ↦ subst Does (sym (fault.1 ∙ result.1)) (write_fault_run text p.len fault.0 result.0 p.front p.gained)
-                  | inr other ↦ subst Does (sym (fault.1 ∙ other.1)) (cut_run status text p.len fault.0 other.0 due p.front p.gained)
-                ]
-          ]
+    -- so a run ends with the status that is due, unless it is hindered
+    ends_as_due : (due status : Status) → IsDue due → Ends r status → EndsAs r due status
+    ends_as_due due status is (inl a) =
+        elim (cause_is_due a.reply a.cause) [
+          | inl other ↦
+              let same : status_of a.reply ≡ due = due_once (status_of a.reply) due other is in
+              elim a.printed [
+                | inl whole ↦ inl (whole.status_is ∙ same)
+                | inr front ↦
+                    elim front.status_is [
+                      | inl cut ↦ inr (OutputFailed cut.0 (cut.1 ∙ ap when_cut same))
+                      | inr out ↦ inr (MemoryRanOut out)
+                    ]
+              ]
+          | inr fails ↦
+              elim a.printed [
+                | inl whole ↦ inr (read_failed due status fails.0 (whole.status_is ∙ fails.1))
+                | inr front ↦
+                    elim front.status_is [
+                      | inl cut ↦ inr (read_failed due status fails.0 (cut.1 ∙ ap when_cut fails.1))
+                      | inr out ↦ inr (MemoryRanOut out)
+                    ]
+              ]
+        ]
+    ends_as_due due status is (inr out) =
+        elim out [
+          | inl whole ↦ inr (MemoryRanOut whole.status_is)
+          | inr front ↦ elim front.status_is [ inl cut ↦ inr (MemoryRanOut cut.1) | inr out ↦ inr (MemoryRanOut out) ]
         ]
 
-    -- memory ran out before anything was due
-    pub unanswered_run : (after : Status) → Prints failed NoMemory (codes "no memory\n") after old new → Runs s failed after old new
-    unanswered_run after p =
-        let ended : after ≡ NoMemory = elim p.outcome [ inl whole ↦ whole.0 | inr cut ↦ elim cut [ inl want ↦ want | inr fault ↦ fault.1 ] ] in
-        subst (λ st. Runs s failed st old new) (sym ended) (no_memory_run [] p.len (inl refl) p.front p.gained)
+    exact : (status : Status) → Ends r status → (reply : Reply) → IsCause r reply → status_of reply ≢ ReadFault → EndsAs r (status_of reply) status
+    exact status ends reply cause other =
+        elim (cause_is_due reply cause) [ inl is ↦ ends_as_due (status_of reply) status is ends | inr fails ↦ absurd (other fails.1) ]
 
--- what is answered to the bytes that a read of the whole file gave
-pub answers_are_due : (words : List (List ℕ)) (old mid : Option Files) (before between after : List ℕ → ℕ) (command : Command) (name seen bytes : List ℕ) (status : Status) (text : List ℕ) →
-    command_of words ≡ Some command → name ≡ instance_file command → HasFile old name (λ file. bytes ≡ file) → length bytes ≤ MAX_INSTANCE_BYTES → seen ≡ bytes → mid ≡ old → NeverFalls before between →
-    Answers (setting_of [] mid between after) command (ufl_meaning seen) status text → IsDueFirst (setting_of words old before after) status text
-answers_are_due words old mid before between after command name seen bytes status text is named told within same kept falls a =
-    let run = setting_of words old before after in
-    let held : MayHold old (instance_file command) bytes = subst (λ n. MayHold old n bytes) named (may_hold old name bytes told) in
-    let answers : Answers run command (ufl_meaning seen) status text = answers_in (setting_of [] mid between after) run kept falls refl command (ufl_meaning seen) status text a in
-    meaning_is_due run command bytes (ufl_meaning seen) status text (record { words_are = is; held = held }) within (ap ufl_meaning (sym same)) answers
+    complete : (status : Status) → Ends r status → (job : Job) (I : Instance) → HasTask r job I → IsComplete r job I status
+    complete status ends SolveShort I task = λ few. ends_as_due Done status (few_is_due I task few) ends
+    complete status ends (Check name) I task =
+        λ cert deserved held. ends_as_due Done status (accepted_is_due I name cert task deserved held) ends
+
+  -- Where the words are no command, that alone is answered.
+  usage_of : (reply : Reply) → IsCause r reply → command_of r.words ≡ None → status_of reply ≡ Usage
+  usage_of reply cause none = elim (words_are reply cause) [ inl is ↦ is | inr some ↦ absurd (no_command some.0 none some.1) ]
+
+  usage : (status : Status) → Ends r status → command_of r.words ≡ None → (status ≡ Usage) ⊎ (status ≡ NoMemory)
+  usage status (inl a) none =
+      elim a.printed [
+        | inl whole ↦ inl (whole.status_is ∙ usage_of a.reply a.cause none)
+        | inr front ↦ elim front.status_is [ inl cut ↦ inl (cut.1 ∙ ap when_cut (usage_of a.reply a.cause none)) | inr out ↦ inr out ]
+      ]
+  usage status (inr out) none =
+      elim out [ inl whole ↦ inr whole.status_is | inr front ↦ elim front.status_is [ inl cut ↦ inr cut.1 | inr out ↦ inr out ] ]
+
+  done : Ends r Done → (reply : Reply) × IsCause r reply × (status_of reply ≡ Done) × (r.after.output.written ≡ with_back r.before.output.written (text_of reply))
+  done (inl a) =
+      elim a.printed [
+        | inl whole ↦ (a.reply, a.cause, sym whole.status_is, whole.gained)
+        | inr front ↦ absurd (elim front.status_is [ inl cut ↦ not_done (status_of a.reply) cut.1 | inr out ↦ not_memory out ])
+      ]
+  done (inr out) =
+      absurd (elim out [
+        | inl whole ↦ not_memory whole.status_is
+        | inr front ↦ elim front.status_is [ inl cut ↦ not_memory cut.1 | inr out ↦ not_memory out ]
+      ])
+
+  pub runs : (status : Status) → Ends r status → Leaves (command_of r.words) r.before r.after → Runs r status
+  runs status ends kept =
+      record {
+        ends = ends;
+        leaves = kept;
+        done = λ is. done (subst (λ s. Ends r s) is ends);
+        usage = usage status ends;
+        exact = λ told. exact told status ends;
+        complete = λ told. complete told status ends;
+      }

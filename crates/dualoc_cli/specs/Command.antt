@@ -16,34 +16,47 @@ form_of word = if bytes_eq word (codes "ufl") then Some Ufl else None
 abbrev pub meaning_of : FileForm → Option ℕ → List ℕ → Result Instance FileFault
 meaning_of Ufl given bytes = ufl_meaning bytes
 
--- where the instance of a command comes from: a form, the name of a file, and the amount of the option `capacity`, where it is there
-pub record Source : Type 0 where
+-- the file of an instance: its form, its name, and the amount of the option `capacity`, where it is there
+pub record InstanceFile : Type 0 where
   pub form : FileForm
-  pub file : List ℕ
+  pub name : List ℕ
   pub given : Option ℕ
+
+-- what the bytes of such a file mean
+abbrev pub meaning_in : InstanceFile → List ℕ → Result Instance FileFault
+meaning_in file bytes = meaning_of file.form file.given bytes
 
 -- what is to be done with the instance: to solve it by a walk over all sets of sites, or to check the certificate in a file against it
 pub data Job : Type 0 where
   SolveShort : Job
   Check : (certificate : List ℕ) → Job
 
-pub record Command : Type 0 where
-  pub source : Source
-  pub job : Job
+-- what words ask for
+pub data Command : Type 0 where
+  OnFile : (file : InstanceFile) (job : Job) → Command
 
 -- names of files: none is empty, and all are different
 abbrev pub are_names : List (List ℕ) → Bool
 are_names [] = true
 are_names (name ∷ names) = not (length name == 0) && not (list_any (bytes_eq name) names) && are_names names
 
--- a command without options
+-- a job on a file without options
 abbrev pub plain_command : Job → List ℕ → FileForm → Command
-plain_command job file form = record { source = record { form = form; file = file; given = None }; job = job }
+plain_command job name form = OnFile (record { form = form; name = name; given = None }) job
+
+-- the words behind `solve`
+abbrev pub solve_of : List (List ℕ) → Option Command
+solve_of (form ∷ file ∷ []) = if bytes_eq form (codes "ufl") && are_names (file ∷ []) then Some (plain_command SolveShort file Ufl) else None
+solve_of _ = None
+
+-- the words behind `check`
+abbrev pub check_of : List (List ℕ) → Option Command
+check_of (form ∷ file ∷ certificate ∷ []) =
+    if are_names (file ∷ certificate ∷ []) then option_map (plain_command (Check certificate) file) (form_of form) else None
+check_of _ = None
 
 -- the command of the words, if they are those of one
 abbrev pub command_of : List (List ℕ) → Option Command
-command_of (verb ∷ form ∷ file ∷ []) =
-    if bytes_eq verb (codes "solve") && bytes_eq form (codes "ufl") && are_names (file ∷ []) then Some (plain_command SolveShort file Ufl) else None
-command_of (verb ∷ form ∷ file ∷ certificate ∷ []) =
-    if bytes_eq verb (codes "check") && are_names (file ∷ certificate ∷ []) then option_map (plain_command (Check certificate) file) (form_of form) else None
-command_of _ = None
+command_of [] = None
+command_of (verb ∷ words) =
+    if bytes_eq verb (codes "solve") then solve_of words else (if bytes_eq verb (codes "check") then check_of words else None)

@@ -1,9 +1,11 @@
--- What a run does: each reply has its cause, and the run ends with some reply, whose text the output gained.
+-- The contract of `run` is `Runs`, at the end of this page: each reply has its cause, the run ends with a reply, or for want of
+-- memory, and the output gained its text. What a file holds is said as far as the shelf tells it: of a shelf that tells nothing,
+-- as the host's, only that there are such bytes. A count that rose is one that is greater or stands at the last value of its counter.
 use Rattle.std.specs.Prelude.{◌≡◌, ◌≢◌, ◌⊎◌, ℕ, ◌<◌, ◌≤◌, List, length, take, Option, None, Some, Ok, Err, codes}
 use Rattle.shelf_port.specs.Files.{Files, MayHold, Rose}
 use Rattle.shelf_port.specs.Streams.{with_back, RefusedLast}
 use Rattle.shelf_port.specs.Ports.{Ports, SinkState}
-use Rattle.location_terms.specs.Instance.{Instance, IsValid}
+use Rattle.location_terms.specs.Instance.{Instance}
 use Rattle.location_terms.specs.Plan.{Plan, cost_of}
 use Rattle.location_terms.specs.Optimal.{IsOptimal, ClaimHolds}
 use Rattle.location_terms.specs.Certificate.{Certificate, IsAccepted}
@@ -18,10 +20,10 @@ use Rattle.certificate_check.specs.declared.verdict.Verdict.TheVariants.{Yes, No
 use Rattle.certificate_check.specs.Verdict.{Answer, IsAnswer}
 use Rattle.dualoc_cli.specs.declared.limits.TheConstants.{MAX_INSTANCE_BYTES}
 use Rattle.dualoc_cli.specs.declared.status.Status.{Status}
-use Rattle.dualoc_cli.specs.declared.status.Status.TheVariants.{Done, Usage, NoMemory}
+use Rattle.dualoc_cli.specs.declared.status.Status.TheVariants.{Done, Usage, ReadFault, NoMemory}
 use Rattle.dualoc_cli.specs.declared.reply.Reply.{Reply}
 use Rattle.dualoc_cli.specs.declared.reply.Reply.TheVariants.{NoCommand, InstanceUnread, LongInstance, Faulty, ManySites, Optimum, CertificateUnread, LongCertificate, Misspelt, Judged}
-use Rattle.dualoc_cli.specs.Command.{Command, Source, Job, SolveShort, Check, command_of, meaning_of}
+use Rattle.dualoc_cli.specs.Command.{Command, OnFile, InstanceFile, Job, SolveShort, Check, command_of, meaning_in}
 use Rattle.dualoc_cli.specs.Status.{when_cut}
 use Rattle.dualoc_cli.specs.Reply.{status_of, text_of}
 
@@ -36,44 +38,46 @@ run_of words before after = record { words = words; before = before; after = aft
 
 -- The causes.
 
--- a read of the named file failed
+-- the count of failed reads of the named file rose
 abbrev pub FailsToRead : Run → List ℕ → Type 0
 FailsToRead r name = Rose (r.before.shelf.reads name) (r.after.shelf.reads name)
 
--- the words are those of this command, and the file of its instance holds these bytes
-pub record AsksFor (r : Run) (command : Command) (bytes : List ℕ) : Type 0 where
-  pub words_are : command_of r.words ≡ Some command
-  pub held : MayHold r.before.shelf.files command.source.file bytes
+-- the words ask for this job on this file, which holds these bytes, as far as the shelf tells
+pub record AsksFor (r : Run) (file : InstanceFile) (job : Job) (bytes : List ℕ) : Type 0 where
+  pub words_are : command_of r.words ≡ Some (OnFile file job)
+  pub held : MayHold r.before.shelf.files file.name bytes
 
 -- a read of the instance's file failed
 pub record InstanceFails (r : Run) : Type 0 where
-  pub command : Command
-  pub words_are : command_of r.words ≡ Some command
-  pub fails : FailsToRead r command.source.file
+  pub file : InstanceFile
+  pub job : Job
+  pub words_are : command_of r.words ≡ Some (OnFile file job)
+  pub fails : FailsToRead r file.name
 
 -- the instance's file is longer than the limit
 pub record IsTooLong (r : Run) : Type 0 where
-  pub command : Command
+  pub file : InstanceFile
+  pub job : Job
   pub bytes : List ℕ
-  pub asked : AsksFor r command bytes
+  pub asked : AsksFor r file job bytes
   pub beyond : MAX_INSTANCE_BYTES < length bytes
 
 -- this is the first fault of the instance's file
 pub record HasFault (r : Run) (fault : FileFault) : Type 0 where
-  pub command : Command
+  pub file : InstanceFile
+  pub job : Job
   pub bytes : List ℕ
-  pub asked : AsksFor r command bytes
+  pub asked : AsksFor r file job bytes
   pub within : length bytes ≤ MAX_INSTANCE_BYTES
-  pub means : meaning_of command.source.form command.source.given bytes ≡ Err fault
+  pub means : meaning_in file bytes ≡ Err fault
 
 -- the words ask for this job on this instance: it is what the bytes of the file that they name mean
 pub record HasTask (r : Run) (job : Job) (I : Instance) : Type 0 where
-  pub source : Source
+  pub file : InstanceFile
   pub bytes : List ℕ
-  pub asked : AsksFor r (record { source = source; job = job }) bytes
+  pub asked : AsksFor r file job bytes
   pub within : length bytes ≤ MAX_INSTANCE_BYTES
-  pub means : meaning_of source.form source.given bytes ≡ Ok I
-  pub valid : IsValid I
+  pub means : meaning_in file bytes ≡ Ok I
 
 -- an instance that is to be solved has more sites than the walk over all sets of sites takes
 pub record HasManySites (r : Run) : Type 0 where
@@ -95,7 +99,7 @@ pub record CertificateFails (r : Run) : Type 0 where
   pub task : HasTask r (Check name) instance
   pub fails : FailsToRead r name
 
--- this is the answer to what the certificate's file holds
+-- this is the checker's answer to what the certificate's file holds
 pub record IsAnswered (r : Run) (answer : Answer) : Type 0 where
   pub instance : Instance
   pub name : List ℕ
@@ -104,6 +108,12 @@ pub record IsAnswered (r : Run) (answer : Answer) : Type 0 where
   pub held : MayHold r.before.shelf.files name bytes
   pub answered : IsAnswer MAX_CERTIFICATE_BYTES instance bytes answer
 
+-- the certificate is accepted, and so the verdict on its text is yes
+pub record DeservesYes (I : Instance) (cert : Certificate) : Type 0 where
+  pub accepted : IsAccepted I cert
+  pub small : HasSmallCosts cert.claim
+  pub within : length (certificate_text I cert) ≤ MAX_CERTIFICATE_BYTES
+
 -- the certificate's file holds the text of an accepted certificate of this claim, and the claim holds
 pub record IsConfirmed (r : Run) (claim : Claim) : Type 0 where
   pub instance : Instance
@@ -111,11 +121,9 @@ pub record IsConfirmed (r : Run) (claim : Claim) : Type 0 where
   pub task : HasTask r (Check name) instance
   pub cert : Certificate
   pub held : MayHold r.before.shelf.files name (certificate_text instance cert)
-  pub within : length (certificate_text instance cert) ≤ MAX_CERTIFICATE_BYTES
-  pub accepted : IsAccepted instance cert
+  pub deserved : DeservesYes instance cert
   pub claims : cert.claim ≡ claim
-  pub small : HasSmallCosts claim
-  pub holds : (plan : Option Plan) × ClaimHolds instance claim plan
+  pub holds : ClaimHolds instance claim cert.plan
 
 -- what is the case where a run may answer so
 abbrev pub IsCause : Run → Reply → Type 0
@@ -136,17 +144,17 @@ IsCause r (Judged (No line why)) = IsAnswered r (Ok (No line why))
 -- the output gained the whole text, no call of it was refused, and the run ends with the status that is due
 pub record PrintsWhole (text : List ℕ) (due status : Status) (old new : SinkState) : Type 0 where
   pub gained : new.written ≡ with_back old.written text
-  pub taken : new.refusals.count ≡ old.refusals.count
-  pub ends : status ≡ due
+  pub none_refused : new.refusals.count ≡ old.refusals.count
+  pub status_is : status ≡ due
 
--- The output refused a call, and nothing was written or tried behind it: it gained a part of the text that isn't all of it.
--- Where the write failed, a result becomes a write fault, and any other status stays; otherwise memory ran out.
+-- The output refused a call, and nothing was written or tried behind it: it gained a front of the text that isn't all of it.
+-- Where a write failed, a result becomes a write fault, and any other status stays; else memory ran out.
 pub record PrintsFront (text : List ℕ) (due status : Status) (old new : SinkState) : Type 0 where
   pub len : ℕ
   pub front : len < length text
   pub gained : new.written ≡ with_back old.written (take len text)
   pub stopped : RefusedLast old.refusals new.refusals
-  pub ends : (Rose old.faults new.faults × (status ≡ when_cut due)) ⊎ (status ≡ NoMemory)
+  pub status_is : (Rose old.faults new.faults × (status ≡ when_cut due)) ⊎ (status ≡ NoMemory)
 
 abbrev pub IsPrinted : List ℕ → Status → Status → SinkState → SinkState → Type 0
 IsPrinted text due status old new = PrintsWhole text due status old new ⊎ PrintsFront text due status old new
@@ -174,7 +182,7 @@ Keeps (Check certificate) before after = ChangesNothing before after
 
 abbrev pub Leaves : Option Command → Ports → Ports → Type 0
 Leaves None before after = ChangesNothing before after
-Leaves (Some command) before after = Keeps command.job before after
+Leaves (Some (OnFile file job)) before after = Keeps job before after
 
 -- What follows from how a run ends.
 
@@ -182,12 +190,20 @@ Leaves (Some command) before after = Keeps command.job before after
 abbrev pub IsTold : Run → Type 0
 IsTold r = (files : Files) × (r.before.shelf.files ≡ Some files)
 
--- a port failed, or memory ran out
-pub data IsHindered (r : Run) (status : Status) : Type 0 where
-  MemoryRanOut : status ≡ NoMemory → IsHindered r status
-  InstanceFailed : InstanceFails r → IsHindered r status
-  CertificateFailed : CertificateFails r → IsHindered r status
-  OutputFailed : Rose r.before.output.faults r.after.output.faults → IsHindered r status
+-- a run has another status than the one that is due: memory ran out, a read failed, or the output refused a part of the text
+pub data IsHindered (r : Run) (due status : Status) : Type 0 where
+  MemoryRanOut : status ≡ NoMemory → IsHindered r due status
+  InstanceFailed : InstanceFails r → status ≡ ReadFault → IsHindered r due status
+  CertificateFailed : CertificateFails r → status ≡ ReadFault → IsHindered r due status
+  OutputFailed : Rose r.before.output.faults r.after.output.faults → status ≡ when_cut due → IsHindered r due status
+
+abbrev pub EndsAs : Run → Status → Status → Type 0
+EndsAs r due status = (status ≡ due) ⊎ IsHindered r due status
+
+-- what is due for a job on an instance, where the files are told
+abbrev pub IsComplete : Run → Job → Instance → Status → Type 0
+IsComplete r SolveShort I status = length I.sites ≤ MAX_WALK_SITES → EndsAs r Done status
+IsComplete r (Check name) I status = (cert : Certificate) → DeservesYes I cert → MayHold r.before.shelf.files name (certificate_text I cert) → EndsAs r Done status
 
 -- What a run does.
 pub record Runs (r : Run) (status : Status) : Type 0 where
@@ -199,7 +215,7 @@ pub record Runs (r : Run) (status : Status) : Type 0 where
   pub done : status ≡ Done → (reply : Reply) × IsCause r reply × (status_of reply ≡ Done) × (r.after.output.written ≡ with_back r.before.output.written (text_of reply))
   -- Words that are no command are answered so.
   pub usage : command_of r.words ≡ None → (status ≡ Usage) ⊎ (status ≡ NoMemory)
-  -- Where the files are told, a reply whose cause is there gives the status, unless a port fails or memory runs out.
-  pub exact : IsTold r → (reply : Reply) → IsCause r reply → (status ≡ status_of reply) ⊎ IsHindered r status
-  -- So an instance of few sites is solved.
-  pub solves : IsTold r → (I : Instance) → HasTask r SolveShort I → length I.sites ≤ MAX_WALK_SITES → (status ≡ Done) ⊎ IsHindered r status
+  -- Where the files are told, a reply whose cause is there gives the status, unless the run is hindered; a count that rose alone is no reason for a read fault.
+  pub exact : IsTold r → (reply : Reply) → IsCause r reply → status_of reply ≢ ReadFault → EndsAs r (status_of reply) status
+  -- So an instance of few sites is solved, and an accepted certificate has its yes.
+  pub complete : IsTold r → (job : Job) (I : Instance) → HasTask r job I → IsComplete r job I status

@@ -28,11 +28,11 @@ status_of (Misspelt kind line) = CheckNo
 status_of (Judged (Yes claim)) = Done
 status_of (Judged (No line why)) = CheckNo
 
--- what speaks against a certificate, with its line
-abbrev pub why_text : ℕ → Why → List ℕ
-why_text line (PlanRefused fault) = codes "PlanRefused line " ++ decimal line ++ codes " " ++ fault_name fault
-why_text line (CostDiffers found) = codes "CostDiffers line " ++ decimal line ++ codes " found " ++ micro_text found
-why_text line (LeafOpen bound q) = codes "LeafOpen line " ++ decimal line ++ codes " bound " ++ number_text bound ++ codes " scale " ++ decimal q
+-- the line of a no: what speaks against a certificate, with its line
+abbrev pub no_text : ℕ → Why → List ℕ
+no_text line (PlanRefused fault) = codes "no PlanRefused line " ++ decimal line ++ codes " " ++ fault_name fault ++ codes "\n"
+no_text line (CostDiffers found) = codes "no CostDiffers line " ++ decimal line ++ codes " found " ++ micro_text found ++ codes "\n"
+no_text line (LeafOpen bound q) = codes "no LeafOpen line " ++ decimal line ++ codes " bound " ++ number_text bound ++ codes " scale " ++ decimal q ++ codes "\n"
 
 abbrev pub text_of : Reply → List ℕ
 text_of NoCommand = codes "usage\n"
@@ -45,4 +45,4 @@ text_of CertificateUnread = codes "read fault\n"
 text_of LongCertificate = codes "too large certificate\n"
 text_of (Misspelt kind line) = codes "no " ++ kind_name kind ++ codes " line " ++ decimal line ++ codes "\n"
 text_of (Judged (Yes claim)) = codes "yes " ++ claim_line claim
-text_of (Judged (No line why)) = codes "no " ++ why_text line why ++ codes "\n"
+text_of (Judged (No line why)) = no_text line why

@@ -6,22 +6,22 @@ use Rattle.location_terms.specs.Plan.{IsFeasible}
 use Rattle.dualoc_cli.specs.declared.reply.Reply.{Reply}
 use Rattle.dualoc_cli.specs.declared.reply.Reply.TheVariants.{NoCommand, InstanceUnread, LongInstance, Faulty, ManySites, Optimum, CertificateUnread, LongCertificate, Misspelt, Judged}
 use Rattle.dualoc_cli.specs.declared.words.Command as told
-use Rattle.dualoc_cli.specs.declared.words.Source as told_source
+use Rattle.dualoc_cli.specs.declared.words.InstanceFile as told_file
 use Rattle.dualoc_cli.specs.declared.words.Job as told_job
 use Rattle.dualoc_cli.specs.declared.words.Job.TheVariants as in_memory
-use Rattle.dualoc_cli.specs.Command.{Source, Job, SolveShort, Check, Command}
+use Rattle.dualoc_cli.specs.Command.{InstanceFile, Job, SolveShort, Check, Command, OnFile}
 use Rattle.dualoc_cli.specs.Due.{Run}
 
 -- what a command in memory asks for
-abbrev pub asked_source : told_source.Source → Source
-asked_source source = record { form = source.form; file = source.file.now; given = source.given }
+abbrev pub asked_file : told_file.InstanceFile → InstanceFile
+asked_file file = record { form = file.form; name = file.name.now; given = file.given }
 
 abbrev pub asked_job : told_job.Job → Job
 asked_job in_memory.SolveShort = SolveShort
 asked_job (in_memory.Check certificate) = Check certificate.now
 
 abbrev pub asked : told.Command → Command
-asked command = record { source = asked_source command.source; job = asked_job command.job }
+asked command = OnFile (asked_file command.file) (asked_job command.job)
 
 -- A part of the run had the shelf so at its start and at its end. The files are those at the start of the run.
 pub record Covers (r : Run) (old new : ShelfState) : Type 0 where
@@ -31,5 +31,13 @@ pub record Covers (r : Run) (old new : ShelfState) : Type 0 where
 
 -- the text of the reply can be made: its plan is one of its instance
 abbrev pub IsPrintable : Reply → Type 0
+IsPrintable NoCommand = Unit {0}
+IsPrintable InstanceUnread = Unit {0}
+IsPrintable LongInstance = Unit {0}
+IsPrintable (Faulty fault) = Unit {0}
+IsPrintable ManySites = Unit {0}
 IsPrintable (Optimum I P cost) = IsFeasible I P
-IsPrintable reply = Unit {0}
+IsPrintable CertificateUnread = Unit {0}
+IsPrintable LongCertificate = Unit {0}
+IsPrintable (Misspelt kind line) = Unit {0}
+IsPrintable (Judged verdict) = Unit {0}

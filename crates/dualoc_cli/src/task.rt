@@ -1,17 +1,16 @@
 //! What a run answers to its words.
-ghost use Rattle.std.specs.Prelude.{◌≡◌, ◌≤◌, IfOk, length, map, string_bytes};
+ghost use Rattle.std.specs.Prelude.{◌≡◌, ◌≤◌, Some, IfOk, length, map, string_bytes};
 ghost use Rattle.shelf_port.specs.Files.{NeverFalls};
 ghost use Rattle.shelf_port.specs.Ports.{shelf_state};
-ghost use Rattle.location_terms.specs.Instance.{IsValid};
 ghost use Rattle.location_terms.specs.Plain.{IsPlain};
 ghost use Rattle.fixed_cost.specs.Reading.{Means};
-ghost use Rattle.dualoc_cli.specs.Command.{SolveShort, Check, command_of, meaning_of};
-ghost use Rattle.dualoc_cli.specs.Due.{Run, AsksFor, HasTask, IsCause};
-ghost use Rattle.dualoc_cli.specs.Step.{asked, asked_job, Covers};
+ghost use Rattle.dualoc_cli.specs.Command.{OnFile, SolveShort, Check, command_of, meaning_in};
+ghost use Rattle.dualoc_cli.specs.Due.{Run, HasTask, IsCause};
+ghost use Rattle.dualoc_cli.specs.Step.{asked, asked_file, asked_job, Covers};
 
 use crate::limits::MAX_INSTANCE_BYTES;
 use crate::reply::Reply;
-use crate::words::{Command, FileForm, Job, Source};
+use crate::words::{Command, FileForm, InstanceFile, Job};
 use certificate_check::{CertFault, check};
 use fixed_cost::FormFault;
 use instance_store::{Instance, NoMemory};
@@ -49,9 +48,9 @@ fn answer<H: Shelf>(
         IsCause r reply) }
     ensures files { H.files shelf.new ≡ H.files shelf.old }
 {
-    let Command { source, job } = command;
-    match read_whole(alloc, shelf, source.file, MAX_INSTANCE_BYTES) {
-        Ok(bytes) => match read(alloc, source, &bytes) {
+    let Command { file, job } = command;
+    match read_whole(alloc, shelf, file.name, MAX_INSTANCE_BYTES) {
+        Ok(bytes) => match read(alloc, file, &bytes) {
             Ok(inst) => work(alloc, job, inst, shelf),
             Err(FormFault::File(fault)) => Ok(Reply::Faulty(fault)),
             Err(FormFault::NoMemory) => Err(NoMemory),
@@ -63,13 +62,12 @@ fn answer<H: Shelf>(
 }
 
 // The instance that the bytes of a command's file mean, or their first fault.
-fn read(alloc: Global, source: Source<'_>, bytes: &[u8]) -> Result<Instance, FormFault>
+fn read(alloc: Global, file: InstanceFile<'_>, bytes: &[u8]) -> Result<Instance, FormFault>
     requires { length bytes.now ≤ MAX_INSTANCE_BYTES }
-    ensures meaning { Means (λ inst. inst) result (meaning_of source.entry.form source.entry.given bytes.now) }
-    ensures valid { IfOk result IsValid }
+    ensures meaning { Means (λ inst. inst) result (meaning_in (asked_file file.entry) bytes.now) }
     ensures plain { IfOk result IsPlain }
 {
-    match source.form {
+    match file.form {
         FileForm::Ufl => ufllib_read::read(alloc, bytes),
     }
 }

@@ -1,21 +1,17 @@
 //! The texts of replies.
-ghost use Rattle.std.specs.Prelude.{◌≡◌, ◌++◌, IfOk, OnOk, decimal};
-ghost use Rattle.fixed_cost.specs.Faults.{fault_text};
-ghost use Rattle.fixed_cost.specs.Print.{micro_text};
-ghost use Rattle.number_words.specs.Number.{number_text};
-ghost use Rattle.dualoc_cli.specs.Reply.{text_of, why_text};
+ghost use Rattle.std.specs.Prelude.{◌≡◌, IfOk};
+ghost use Rattle.dualoc_cli.specs.Reply.{text_of, no_text};
 ghost use Rattle.dualoc_cli.specs.Step.{IsPrintable};
 
 use crate::reply::Reply;
 use certificate_check::{CertKind, Verdict, Why};
 use fixed_cost::{FileFault, print_micro};
 use instance_store::NoMemory;
-use itoa::Buffer;
 use location_terms::Claim;
 use number_words::print_number;
 use plan_meaning::PlanFault;
 use report::{plan_text, push_claim};
-use std::alloc::{AllocError, Global};
+use std::alloc::Global;
 
 /// The text of a reply, as it is printed.
 ///
@@ -48,25 +44,14 @@ fn line(alloc: Global, text: &[u8]) -> Result<Vec<u8>, NoMemory>
 fn faulty(alloc: Global, fault: FileFault) -> Result<Vec<u8>, NoMemory>
     ensures { IfOk result (λ text. text.items ≡ text_of (Reply.Faulty fault)) }
 {
-    let mut text = Vec::from_slice(alloc, b"bad input ")?;
-    text.extend_from_slice(fault.kind.name().as_bytes())?;
-    text.extend_from_slice(b" line ")?;
-    push_number(&mut text, fault.line)?;
-    text.extend_from_slice(b" word ")?;
-    push_number(&mut text, fault.word)?;
-    text.extend_from_slice(b"\n")?;
-    Ok(text)
+    Ok(format!(in alloc; "bad input {fault}\n")?.into_bytes())
 }
 
 fn misspelt(alloc: Global, kind: CertKind, line: u64) -> Result<Vec<u8>, NoMemory>
     ensures { IfOk result (λ text. text.items ≡ text_of (Reply.Misspelt kind line)) }
 {
-    let mut text = Vec::from_slice(alloc, b"no ")?;
-    text.extend_from_slice(kind.name().as_bytes())?;
-    text.extend_from_slice(b" line ")?;
-    push_number(&mut text, line)?;
-    text.extend_from_slice(b"\n")?;
-    Ok(text)
+    let name = kind.name();
+    Ok(format!(in alloc; "no {name} line {line}\n")?.into_bytes())
 }
 
 fn judged(alloc: Global, verdict: Verdict) -> Result<Vec<u8>, NoMemory>
@@ -87,73 +72,41 @@ fn yes(alloc: Global, claim: &Claim) -> Result<Vec<u8>, NoMemory>
 }
 
 fn no(alloc: Global, line: u64, why: Why) -> Result<Vec<u8>, NoMemory>
-    ensures { IfOk result (λ text. text.items ≡ text_of (Reply.Judged (Verdict.No line why))) }
+    ensures { IfOk result (λ text. text.items ≡ no_text line why) }
 {
-    let mut text = Vec::from_slice(alloc, b"no ")?;
-    push_why(&mut text, line, why)?;
+    match why {
+        Why::PlanRefused(fault) => refused(alloc, line, fault),
+        Why::CostDiffers { found } => differs(alloc, line, found),
+        Why::LeafOpen { bound, q } => open(alloc, line, bound, q),
+    }
+}
+
+fn refused(alloc: Global, line: u64, fault: PlanFault) -> Result<Vec<u8>, NoMemory>
+    ensures { IfOk result (λ text. text.items ≡ no_text line (Why.PlanRefused fault)) }
+{
+    let name = fault.name();
+    Ok(format!(in alloc; "no PlanRefused line {line} {name}\n")?.into_bytes())
+}
+
+fn differs(alloc: Global, line: u64, found: u64) -> Result<Vec<u8>, NoMemory>
+    ensures { IfOk result (λ text. text.items ≡ no_text line (Why.CostDiffers found)) }
+{
+    let mut buffer = [0; 24];
+    let len = print_micro(found, &mut buffer);
+    let mut text = format!(in alloc; "no CostDiffers line {line} found ")?.into_bytes();
+    text.extend_from_slice(&buffer[..len])?;
     text.extend_from_slice(b"\n")?;
     Ok(text)
 }
 
-fn push_why(text: &mut Vec<u8>, line: u64, why: Why) -> Result<(), AllocError>
-    ensures { OnOk result (text.new.items ≡ text.old.items ++ why_text line why) }
-{
-    match why {
-        Why::PlanRefused(fault) => push_refused(text, line, fault),
-        Why::CostDiffers { found } => push_found(text, line, found),
-        Why::LeafOpen { bound, q } => push_open(text, line, bound, q),
-    }
-}
-
-fn push_refused(text: &mut Vec<u8>, line: u64, fault: PlanFault) -> Result<(), AllocError>
-    ensures { OnOk result (text.new.items ≡ text.old.items ++ why_text line (Why.PlanRefused fault)) }
-{
-    text.extend_from_slice(b"PlanRefused line ")?;
-    push_number(text, line)?;
-    text.extend_from_slice(b" ")?;
-    text.extend_from_slice(fault.name().as_bytes())?;
-    Ok(())
-}
-
-fn push_found(text: &mut Vec<u8>, line: u64, found: u64) -> Result<(), AllocError>
-    ensures { OnOk result (text.new.items ≡ text.old.items ++ why_text line (Why.CostDiffers found)) }
-{
-    text.extend_from_slice(b"CostDiffers line ")?;
-    push_number(text, line)?;
-    text.extend_from_slice(b" found ")?;
-    push_amount(text, found)
-}
-
-fn push_open(text: &mut Vec<u8>, line: u64, bound: i128, q: u32) -> Result<(), AllocError>
-    ensures { OnOk result (text.new.items ≡ text.old.items ++ why_text line (Why.LeafOpen bound q)) }
-{
-    text.extend_from_slice(b"LeafOpen line ")?;
-    push_number(text, line)?;
-    text.extend_from_slice(b" bound ")?;
-    push_bound(text, bound)?;
-    text.extend_from_slice(b" scale ")?;
-    push_number(text, u64::from(q))?;
-    Ok(())
-}
-
-fn push_number(text: &mut Vec<u8>, n: u64) -> Result<(), AllocError>
-    ensures { OnOk result (text.new.items ≡ text.old.items ++ decimal n) }
-{
-    text.extend_from_slice(Buffer::new().format(n).as_bytes())
-}
-
-fn push_amount(text: &mut Vec<u8>, micro: u64) -> Result<(), AllocError>
-    ensures { OnOk result (text.new.items ≡ text.old.items ++ micro_text micro) }
-{
-    let mut buffer = [0; 24];
-    let len = print_micro(micro, &mut buffer);
-    text.extend_from_slice(&buffer[..len])
-}
-
-fn push_bound(text: &mut Vec<u8>, bound: i128) -> Result<(), AllocError>
-    ensures { OnOk result (text.new.items ≡ text.old.items ++ number_text bound) }
+fn open(alloc: Global, line: u64, bound: i128, q: u32) -> Result<Vec<u8>, NoMemory>
+    ensures { IfOk result (λ text. text.items ≡ no_text line (Why.LeafOpen bound q)) }
 {
     let mut buffer = [0; 40];
     let len = print_number(bound, &mut buffer);
-    text.extend_from_slice(&buffer[..len])
+    let mut text = format!(in alloc; "no LeafOpen line {line} bound ")?.into_bytes();
+    text.extend_from_slice(&buffer[..len])?;
+    let rest = format!(in alloc; " scale {q}\n")?;
+    text.extend_from_slice(rest.as_bytes())?;
+    Ok(text)
 }

@@ -1,7 +1,7 @@
 ghost use Rattle.std.specs.Prelude.{◌≡◌, [], ◌∷◌, map, string_bytes};
 ghost use Rattle.std.specs.Option.{option_map};
-ghost use Rattle.dualoc_cli.specs.Command.{command_of, form_of};
-ghost use Rattle.dualoc_cli.specs.Step.{asked};
+ghost use Rattle.dualoc_cli.specs.Command.{command_of, solve_of, check_of, are_names, form_of, plain_command};
+ghost use Rattle.dualoc_cli.specs.Step.{asked, asked_job};
 
 /// A form of instance files.
 #[derive(Clone, Copy, Debug, PartialEq, Eq)]
@@ -23,12 +23,11 @@ impl FileForm {
     }
 }
 
-/// Where the instance of a command comes from.
+/// The file of an instance.
 #[derive(Clone, Copy)]
-pub struct Source<'a> {
+pub struct InstanceFile<'a> {
     pub form: FileForm,
-    /// The name of the file.
-    pub file: &'a str,
+    pub name: &'a str,
     /// The amount of the option `capacity`, in millionths, where it is there.
     pub given: Option<u64>,
 }
@@ -45,7 +44,7 @@ pub enum Job<'a> {
 /// What the words of a command line ask for.
 #[derive(Clone, Copy)]
 pub struct Command<'a> {
-    pub source: Source<'a>,
+    pub file: InstanceFile<'a>,
     pub job: Job<'a>,
 }
 
@@ -54,51 +53,59 @@ impl<'a> Command<'a> {
     pub fn of(words: &'a [String]) -> Option<Command<'a>>
         ensures { option_map asked result ≡ command_of (map string_bytes words.now) }
     {
-        match words {
-            [verb, form, file] => solve(verb.as_str(), form.as_str(), file.as_str()),
-            [verb, form, file, certificate] => check(
-                verb.as_str(),
-                form.as_str(),
-                file.as_str(),
-                certificate.as_str(),
-            ),
+        let [verb, words @ ..] = words else {
+            return None;
+        };
+        match verb.as_str() {
+            "solve" => solve(words),
+            "check" => check(words),
             _ => None,
         }
     }
 }
 
-// A command without options.
-fn plain<'a>(job: Job<'a>, file: &'a str, form: FileForm) -> Command<'a>
-    ensures { asked result ≡ plain_command (asked_job job.entry) file.now form }
+// The words behind `solve`.
+fn solve(words: &[String]) -> Option<Command<'_>>
+    ensures { option_map asked result ≡ solve_of (map string_bytes words.now) }
+{
+    match words {
+        [form, file] if form.as_str() == "ufl" && !file.is_empty() => {
+            Some(plain(Job::SolveShort, file.as_str(), FileForm::Ufl))
+        }
+        _ => None,
+    }
+}
+
+// The words behind `check`.
+fn check(words: &[String]) -> Option<Command<'_>>
+    ensures { option_map asked result ≡ check_of (map string_bytes words.now) }
+{
+    match words {
+        [form, file, certificate] if are_names(file.as_str(), certificate.as_str()) => {
+            let form = FileForm::of(form.as_str())?;
+            Some(plain(Job::Check(certificate.as_str()), file.as_str(), form))
+        }
+        _ => None,
+    }
+}
+
+// Whether the names of two files are not empty, and not the same.
+fn are_names(one: &str, other: &str) -> bool
+    ensures { result ≡ are_names (one.now ∷ other.now ∷ []) }
+{
+    !one.is_empty() && one != other && !other.is_empty()
+}
+
+// A job on a file without options.
+fn plain<'a>(job: Job<'a>, name: &'a str, form: FileForm) -> Command<'a>
+    ensures { asked result ≡ plain_command (asked_job job.entry) name.now form }
 {
     Command {
-        source: Source {
+        file: InstanceFile {
             form,
-            file,
+            name,
             given: None,
         },
         job,
-    }
-}
-
-fn solve<'a>(verb: &str, form: &str, file: &'a str) -> Option<Command<'a>>
-    ensures { option_map asked result ≡ command_of (verb.now ∷ form.now ∷ file.now ∷ []) }
-{
-    if verb == "solve" && form == "ufl" && !file.is_empty() {
-        Some(plain(Job::SolveShort, file, FileForm::Ufl))
-    } else {
-        None
-    }
-}
-
-fn check<'a>(verb: &str, form: &str, file: &'a str, certificate: &'a str) -> Option<Command<'a>>
-    ensures { option_map asked result ≡ command_of (verb.now ∷ form.now ∷ file.now ∷ certificate.now ∷ []) }
-{
-    let named = !file.is_empty() && file != certificate && !certificate.is_empty();
-    if verb == "check" && named {
-        let form = FileForm::of(form)?;
-        Some(plain(Job::Check(certificate), file, form))
-    } else {
-        None
     }
 }

@@ -1,8 +1,8 @@
 // An input and an output in memory.
-ghost use Rattle.std.specs.Prelude.{◌≡◌, ◌<◌, ◌≤◌, ◌↔◌, [], length, take, drop, Some, IfOk, OnErr, IsErrOf};
-ghost use Rattle.shelf_port.specs.Files.{Rose};
+ghost use Rattle.std.specs.Prelude.{◌≡◌, ◌<◌, ◌≤◌, ◌↔◌, [], length, take, drop, Some, true, IfOk, OnOk, OnErr, IsErrOf};
+ghost use Rattle.shelf_port.specs.Files.{Rose, one_more};
 ghost use Rattle.shelf_port.specs.Plan.{NextFails, after_call};
-ghost use Rattle.shelf_port.specs.Streams.{with_front, with_back};
+ghost use Rattle.shelf_port.specs.Streams.{with_front, with_back, taken, refused};
 
 use crate::fault::{SinkFault, SourceFault};
 use crate::plan::{CallPlan, copy_from};
@@ -95,6 +95,8 @@ pub struct MemSink {
     written: Vec<u8>,
     plan: CallPlan,
     faults: u64,
+    refused: u64,
+    is_refused: bool,
 }
 
 impl MemSink {
@@ -111,6 +113,8 @@ impl MemSink {
             written: Vec::new(alloc),
             plan: CallPlan::new(fails),
             faults: 0,
+            refused: 0,
+            is_refused: false,
         }
     }
 
@@ -127,7 +131,17 @@ impl MemSink {
             written: self.written,
             plan: self.plan.in_pieces(width),
             faults: self.faults,
+            refused: self.refused,
+            is_refused: self.is_refused,
         }
+    }
+
+    // Counts a refused call.
+    fn refuse(&mut self)
+        ensures { self.new ≡ record self.old { refused = one_more self.old.refused; is_refused = true } }
+    {
+        self.refused = self.refused.saturating_add(1);
+        self.is_refused = true;
     }
 
     /// All that was written.
@@ -140,11 +154,13 @@ impl MemSink {
 
 impl Sink for MemSink {
     ghost use Rattle.std.specs.Prelude.{Some};
-    ghost use Rattle.shelf_port.specs.MemStreams.{written_to, output_plan, write_faults_of};
+    ghost use Rattle.shelf_port.specs.MemStreams.{written_to, output_plan, write_faults_of, refusals_of};
 
     ghost written = { λ s. Some (written_to s) };
 
     ghost faults = { λ s. s.faults };
+
+    ghost refusals = { λ s. refusals_of s };
 
     fn write(&mut self, bytes: &[u8]) -> Result<usize, SinkFault>
         ensures bound { IfOk result (λ n. n ≤ length bytes.now) }
@@ -152,6 +168,8 @@ impl Sink for MemSink {
         ensures ok { IfOk result (λ n. Some (written_to self.new) ≡
             with_back (Some (written_to self.old)) (take n bytes.now)) }
         ensures err { OnErr result (Some (written_to self.new) ≡ Some (written_to self.old)) }
+        ensures taken { OnOk result (refusals_of self.new ≡ taken (refusals_of self.old)) }
+        ensures refused { OnErr result (refusals_of self.new ≡ refused (refusals_of self.old)) }
 
         ensures failed { IsErrOf result SinkFault.Failed →
             Rose (write_faults_of self.old) (write_faults_of self.new) }
@@ -164,10 +182,15 @@ impl Sink for MemSink {
     {
         if self.plan.next_fails() {
             self.faults = self.faults.saturating_add(1);
+            self.refuse();
             return Err(SinkFault::Failed);
         }
         let count = self.plan.part_of(bytes.len());
-        self.written.extend_from_slice(&bytes[..count])?;
+        if self.written.extend_from_slice(&bytes[..count]).is_err() {
+            self.refuse();
+            return Err(SinkFault::NoMemory);
+        }
+        self.is_refused = false;
         Ok(count)
     }
 }

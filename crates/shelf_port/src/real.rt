@@ -103,6 +103,8 @@ impl<R: Input> Source for RealSource<R> {
 pub struct RealSink<R> {
     rt: R,
     faults: u64,
+    refused: u64,
+    is_refused: bool,
 }
 
 impl<R: Print> RealSink<R> {
@@ -110,7 +112,12 @@ impl<R: Print> RealSink<R> {
     pub fn new(rt: R) -> Self
         ensures { output_faults result ≡ 0 }
     {
-        RealSink { rt, faults: 0 }
+        RealSink {
+            rt,
+            faults: 0,
+            refused: 0,
+            is_refused: false,
+        }
     }
 }
 
@@ -119,11 +126,20 @@ impl<R: Print> Sink for RealSink<R> {
 
     ghost faults = { λ s. s.faults };
 
+    ghost refusals = { λ s. record { count = s.refused; last = s.is_refused } };
+
     fn write(&mut self, bytes: &[u8]) -> Result<usize, SinkFault> {
         match write_some(&mut io::writer(&self.rt), bytes) {
-            Ok(count) => Ok(count),
-            Err(e) if e.kind() == ErrorKind::OutOfMemory => Err(SinkFault::NoMemory),
-            Err(_) => {
+            Ok(count) => {
+                self.is_refused = false;
+                Ok(count)
+            }
+            Err(e) => {
+                self.is_refused = true;
+                self.refused = self.refused.saturating_add(1);
+                if e.kind() == ErrorKind::OutOfMemory {
+                    return Err(SinkFault::NoMemory);
+                }
                 self.faults = self.faults.saturating_add(1);
                 Err(SinkFault::Failed)
             }

@@ -2,7 +2,7 @@
 // goes on over short reads and short writes.
 ghost use Rattle.std.specs.Prelude.{◌≡◌, ℕ, ◌<◌, ◌≤◌, length, take, IfOk, OnOk, OnErr, IsErrOf, vec_len};
 ghost use Rattle.shelf_port.specs.Files.{with_file, with_added, HasFile, LeavesPrefix, AddsPrefix, Rose, NeverFalls};
-ghost use Rattle.shelf_port.specs.Streams.{with_back};
+ghost use Rattle.shelf_port.specs.Streams.{with_back, RefusedLast};
 
 use crate::fault::{PutFault, ReadWhole, SinkFault};
 use crate::ports::{Shelf, Sink};
@@ -94,8 +94,10 @@ pub fn append_whole<H: Shelf>(shelf: &mut H, name: &str, bytes: &[u8]) -> Result
 pub fn write_whole<O: Sink>(sink: &mut O, bytes: &[u8]) -> Result<(), SinkFault>
     ensures ok { OnOk result (O.written sink.new ≡ with_back (O.written sink.old) bytes.now) }
     ensures err { OnErr result
-        ((k : ℕ) × (k ≤ length bytes.now)
+        ((k : ℕ) × (k < length bytes.now)
         × (O.written sink.new ≡ with_back (O.written sink.old) (take k bytes.now))) }
+    ensures taken { OnOk result ((O.refusals sink.new).count ≡ (O.refusals sink.old).count) }
+    ensures refused { OnErr result (RefusedLast (O.refusals sink.old) (O.refusals sink.new)) }
     ensures failed { IsErrOf result SinkFault.Failed →
         Rose (O.faults sink.old) (O.faults sink.new) }
     ensures counts { O.faults sink.old ≤ O.faults sink.new }
