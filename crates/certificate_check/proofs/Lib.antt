@@ -6,4 +6,5 @@ pub mod Meaning
 pub mod One
 pub mod Passed
 pub mod Rest
+pub mod Untold
 pub mod Within

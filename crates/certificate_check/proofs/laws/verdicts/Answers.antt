@@ -1,5 +1,6 @@
 -- What the lines lead to, and what they show.
-use Rattle.certificate_check.proofs.Meaning.{yes_means, yes_holds, accepted_yes}
+use Rattle.certificate_lines.specs.declared.limits.TheConstants.{MAX_CERTIFICATE_BYTES}
+use Rattle.certificate_check.proofs.Meaning.{yes_means, yes_means_within, yes_holds, accepted_yes, accepted_yes_within}
 use Rattle.certificate_check.proofs.One.{one_verdict, one_answer}
 use Rattle.certificate_check.proofs.laws.verdicts.Goals as goal
 
@@ -17,3 +18,9 @@ returns-clause-holds c = yes_holds
 
 pub returns-clause-accepted : goal.returns-clause-accepted
 returns-clause-accepted c = accepted_yes
+
+pub returns-clause-yes_within : goal.returns-clause-yes_within
+returns-clause-yes_within c = yes_means_within MAX_CERTIFICATE_BYTES
+
+pub returns-clause-accepted_within : goal.returns-clause-accepted_within
+returns-clause-accepted_within c = accepted_yes_within MAX_CERTIFICATE_BYTES
