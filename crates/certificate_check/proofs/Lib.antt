@@ -1,3 +1,4 @@
+pub mod Always
 pub mod Exits
 pub mod Followed
 pub mod Judged

@@ -30,7 +30,8 @@ use std::alloc::Global;
 /// `Text` is the first one of the text, with its line, counted from 1, where nothing before it speaks
 /// against the certificate. `TooLong` comes where nothing is decided within `MAX_CERTIFICATE_BYTES`
 /// and the file is longer; `ReadFailed` where a read failed, as on a name without a file; `NoMemory`
-/// where memory ran out. The files are as before in each case.
+/// where memory ran out. The files are as before in each case. Where the shelf tells no files, there
+/// still are bytes with this answer.
 pub fn check<H: Shelf>(
     alloc: Global,
     inst: &Instance,
@@ -50,7 +51,6 @@ pub fn check<H: Shelf>(
         TellsFile (H.files shelf.old) name.now (certificate_text inst.now cert) →
         IsUnread result ⊎ (result ≡ Ok (Verdict.Yes cert.claim)) }
 
-    // Also where the shelf tells no files.
     ensures holds { (claim : Claim) → result ≡ Ok (Verdict.Yes claim) →
         (plan : Option Plan) × ClaimHolds inst.now claim plan }
     ensures failed { IsErrOf result CertFault.ReadFailed →

@@ -11,12 +11,16 @@ ghost use Rattle.certificate_lines.specs.declared.limits.TheConstants.{MAX_CERTI
 ghost use Rattle.certificate_check.specs.Verdict.{Answer, IsAnswer, IsVerdict};
 ghost use Rattle.certificate_check.specs.declared.verdict.Verdict.TheVariants.{Yes};
 
-/// Bytes have at most one verdict, and a file at most one answer within a limit. The bytes to which the
-/// verdict is yes are the text of an accepted certificate of the claim, and the claim holds. The other
-/// way, the verdict on the text of an accepted certificate is yes to its claim, where each cost of the
-/// claim is at most `MAX_COST`. Both hold of the answer within `MAX_CERTIFICATE_BYTES` too, where the
-/// text is no longer.
+/// Of a valid instance, any bytes have a verdict and only one, and a file has one answer within a limit.
+/// The bytes to which the verdict is yes are the text of an accepted certificate of the claim, and the
+/// claim holds. The other way, the verdict on the text of an accepted certificate is yes to its claim,
+/// where each cost of the claim is at most `MAX_COST`. The same is so of the answer within
+/// `MAX_CERTIFICATE_BYTES`, of texts that are no longer.
 pub fn verdicts()
+    ensures some { (I : Instance) (bytes : List ℕ) →
+        IsValid I → (answer : Answer) × IsVerdict I bytes answer }
+    ensures some_within { (limit : ℕ) (I : Instance) (bytes : List ℕ) →
+        IsValid I → (answer : Answer) × IsAnswer limit I bytes answer }
     ensures one { (I : Instance) (bytes : List ℕ) (a b : Answer) →
         IsVerdict I bytes a → IsVerdict I bytes b → a ≡ b }
     ensures one_within { (limit : ℕ) (I : Instance) (bytes : List ℕ) (a b : Answer) →

@@ -15,10 +15,9 @@ ghost use Rattle.ufllib_read.specs.Ufl.{ufl_meaning};
 mod laws;
 mod rows;
 
-pub use laws::meanings;
-
 use fixed_cost::{FormFault, WordReader};
 use instance_store::Instance;
+pub use laws::meanings;
 use std::alloc::Global;
 
 /// The instance that a file of at most 2^28 bytes means, with sites 1, 2, 3 and so on and customers
