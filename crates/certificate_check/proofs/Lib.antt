@@ -1,3 +1,4 @@
+pub mod Always
 pub mod Exits
 pub mod Followed
 pub mod Judged
@@ -6,4 +7,5 @@ pub mod Meaning
 pub mod One
 pub mod Passed
 pub mod Rest
+pub mod Untold
 pub mod Within

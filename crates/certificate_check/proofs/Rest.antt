@@ -37,11 +37,11 @@ same_anyway true answer = refl
 same_anyway false answer = refl
 
 -- where a line is due, bytes without a line feed decide nothing
-open_rest : (due : Due) (line : ℕ) (rest : List ℕ) → claim_behind due ≡ None → Undecided due line ≡ at_rest due line rest
+pub open_rest : (due : Due) (line : ℕ) (rest : List ℕ) → claim_behind due ≡ None → Undecided due line ≡ at_rest due line rest
 open_rest (NothingDue claim) line rest is_open = absurd cc
 open_rest due line rest is_open = refl
 
-open_end : (due : Due) (line : ℕ) → claim_behind due ≡ None → Err (Text Ended line) ≡ at_end (Undecided due line)
+pub open_end : (due : Due) (line : ℕ) → claim_behind due ≡ None → Err (Text Ended line) ≡ at_end (Undecided due line)
 open_end (NothingDue claim) line is_open = absurd cc
 open_end due line is_open = refl
 

@@ -83,6 +83,14 @@ yes_within limit I bytes claim answer =
       | inr within ↦ (answer.0, subst (λ bs. LeadsTo I HeaderDue 1 (slice_split is_line_feed bs) answer.0) (take_all limit bytes (ltb-false limit (length bytes) within)) answer.1, rw within at answer.2)
     ]
 
+-- and the whole lies within it
+pub yes_ends : (limit : ℕ) (I : Instance) (bytes : List ℕ) (claim : Claim) → IsAnswer limit I bytes (Ok (Yes claim)) → length bytes ≤ limit
+yes_ends limit I bytes claim answer =
+    elim (cases_Bool (nat_lt limit (length bytes))) [
+      | inl longer ↦ absurd (past_yes I (take limit bytes) claim answer.0 answer.1 (rw longer at answer.2))
+      | inr within ↦ ltb-false limit (length bytes) within
+    ]
+
 -- the verdict on bytes within a limit is the answer on them
 pub verdict_within : (limit : ℕ) (I : Instance) (bytes : List ℕ) (answer : Answer) → length bytes ≤ limit → IsVerdict I bytes answer → IsAnswer limit I bytes answer
 verdict_within limit I bytes answer within verdict =

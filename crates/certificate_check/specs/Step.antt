@@ -1,5 +1,5 @@
 -- What one line of a certificate comes to, and what the rest of a file does.
-use Rattle.std.specs.Prelude.{◌≡◌, ◌⊎◌, ℕ, List, Option, None, Some, Result, Ok, Err, length, nat_lt, if◌then◌else◌}
+use Rattle.std.specs.Prelude.{◌≡◌, ◌⊎◌, ℕ, ◌<◌, List, Option, None, Some, Result, Ok, Err, length, nat_lt, if◌then◌else◌}
 use Rattle.std.specs.List.{slice_split}
 use Rattle.fixed_cost.specs.Words.{is_line_feed}
 use Rattle.location_terms.specs.declared.claim.Claim.{Claim}
@@ -8,9 +8,11 @@ use Rattle.certificate_lines.specs.Due.{Due, NothingDue, Shown, Suits}
 use Rattle.certificate_lines.specs.Lines.{Said}
 use Rattle.certificate_lines.specs.Form.{due_of}
 use Rattle.certificate_lines.specs.declared.fault.CertFault.{CertFault}
-use Rattle.certificate_lines.specs.declared.fault.CertFault.TheVariants.{ReadFailed, NoMemory}
+use Rattle.certificate_lines.specs.declared.fault.CertFault.TheVariants.{Text, TooLong, ReadFailed, NoMemory}
+use Rattle.certificate_lines.specs.declared.kind.CertKind.TheVariants.{Ended, Trailing}
 use Rattle.certificate_check.specs.declared.step.Step.{Step}
 use Rattle.certificate_check.specs.declared.step.Step.TheVariants.{On, Says}
+use Rattle.certificate_check.specs.declared.verdict.Verdict.TheVariants.{Yes}
 use Rattle.certificate_check.specs.Judgement.{Stands}
 use Rattle.certificate_check.specs.Verdict.{Answer, Outcome, Decided, TakesLine, LeadsTo, at_end, past_limit}
 
@@ -45,3 +47,11 @@ LeavesReady I (Says verdict) = Unit {0}
 -- the answer on a file of whose first bytes, up to a limit, this rest is left, where this is due in the line of this number
 abbrev pub IsAnswerFrom : ℕ → Instance → Due → ℕ → List ℕ → List ℕ → Answer → Type 0
 IsAnswerFrom limit I due line rest file answer = (outcome : Outcome) × LeadsTo I due line (slice_split is_line_feed rest) outcome × (answer ≡ (if nat_lt limit (length file) then past_limit outcome else at_end outcome))
+
+-- what a look behind the last line may find, where so many bytes are left up to the limit: the end, the limit, or one of them
+abbrev pub MayClose : Claim → ℕ → ℕ → Answer → Type 0
+MayClose claim line left answer = (answer ≡ Ok (Yes claim)) ⊎ (answer ≡ Err TooLong) ⊎ ((0 < left) × (answer ≡ Err (Text Trailing line)))
+
+-- where a line is due and there is no line feed, the file ends or goes on past the limit
+abbrev pub MayMiss : ℕ → CertFault → Type 0
+MayMiss line fault = (fault ≡ Text Ended line) ⊎ (fault ≡ TooLong)

@@ -6,13 +6,13 @@ ghost use Rattle.location_terms.specs.Optimal.{ClaimHolds};
 ghost use Rattle.location_terms.specs.Certificate.{Certificate, IsAccepted};
 ghost use Rattle.certificate_lines.specs.Follow.{HasSmallCosts};
 ghost use Rattle.certificate_lines.specs.Text.{certificate_text};
-ghost use Rattle.shelf_port.specs.Files.{HasFile, Rose, NeverFalls};
+ghost use Rattle.shelf_port.specs.Files.{HasFile, MayHold, Rose, NeverFalls};
 ghost use Rattle.shelf_lines.specs.Line.{IsLine};
 ghost use Rattle.shelf_lines.specs.Rest.{start_of, ForFile, TellsFile, rest_of, unread};
 ghost use Rattle.certificate_lines.specs.Due.{Due, NothingDue};
 ghost use Rattle.certificate_lines.specs.Form.{due_of};
-ghost use Rattle.certificate_check.specs.Step.{IsUnread, IsAnswerFrom, claim_behind};
-ghost use Rattle.certificate_check.specs.Verdict.{IsAnswer, IsVerdict};
+ghost use Rattle.certificate_check.specs.Step.{IsUnread, IsAnswerFrom, MayClose, MayMiss, claim_behind};
+ghost use Rattle.certificate_check.specs.Verdict.{IsAnswer};
 
 use crate::step::{Step, take_line};
 use crate::{CertFault, CertKind, MAX_CERTIFICATE_BYTES, Verdict};
@@ -30,18 +30,20 @@ use std::alloc::Global;
 /// `Text` is the first one of the text, with its line, counted from 1, where nothing before it speaks
 /// against the certificate. `TooLong` comes where nothing is decided within `MAX_CERTIFICATE_BYTES`
 /// and the file is longer; `ReadFailed` where a read failed, as on a name without a file; `NoMemory`
-/// where memory ran out. The files are as before in each case.
+/// where memory ran out. The files are as before in each case. Where the shelf tells no files, there
+/// still are bytes with this answer.
 pub fn check<H: Shelf>(
     alloc: Global,
     inst: &Instance,
     shelf: &mut H,
     name: &str,
 ) -> Result<Verdict, CertFault>
-    ensures answer { IsUnread result ⊎ HasFile (H.files shelf.old) name.now
-        (λ bytes. IsAnswer MAX_CERTIFICATE_BYTES inst.now bytes result) }
+    ensures answer { IsUnread result ⊎ ((bytes : List ℕ) × MayHold (H.files shelf.old) name.now bytes
+        × IsAnswer MAX_CERTIFICATE_BYTES inst.now bytes result) }
     ensures yes { (claim : Claim) → result ≡ Ok (Verdict.Yes claim) →
-        HasFile (H.files shelf.old) name.now (λ bytes. (cert : Certificate)
-        × (bytes ≡ certificate_text inst.now cert) × IsAccepted inst.now cert × (cert.claim ≡ claim)) }
+        (cert : Certificate) × MayHold (H.files shelf.old) name.now (certificate_text inst.now cert)
+        × IsAccepted inst.now cert × (cert.claim ≡ claim) × HasSmallCosts claim
+        × (length (certificate_text inst.now cert) ≤ MAX_CERTIFICATE_BYTES) }
 
     // The other way, the text of an accepted certificate is answered with yes.
     ensures accepts { (cert : Certificate) → IsAccepted inst.now cert → HasSmallCosts cert.claim →
@@ -49,7 +51,6 @@ pub fn check<H: Shelf>(
         TellsFile (H.files shelf.old) name.now (certificate_text inst.now cert) →
         IsUnread result ⊎ (result ≡ Ok (Verdict.Yes cert.claim)) }
 
-    // Also where the shelf tells no files.
     ensures holds { (claim : Claim) → result ≡ Ok (Verdict.Yes claim) →
         (plan : Option Plan) × ClaimHolds inst.now claim plan }
     ensures failed { IsErrOf result CertFault.ReadFailed →
@@ -75,10 +76,8 @@ pub(crate) fn check_lines<H: Shelf>(
 ) -> Result<Verdict, CertFault>
     requires start { reader.old ≡ start_of reader.old.limit }
     requires within { reader.old.limit ≤ MAX_CERTIFICATE_BYTES }
-    ensures answer { IsUnread result ⊎ HasFile (H.files shelf.old) name.now
-        (λ bytes. IsAnswer reader.old.limit inst.now bytes result) }
-    ensures yes { (claim : Claim) → result ≡ Ok (Verdict.Yes claim) →
-        (bytes : List ℕ) × IsVerdict inst.now bytes (Ok (Verdict.Yes claim)) }
+    ensures answer { IsUnread result ⊎ ((bytes : List ℕ) × MayHold (H.files shelf.old) name.now bytes
+        × IsAnswer reader.old.limit inst.now bytes result) }
     ensures failed { IsErrOf result CertFault.ReadFailed →
         Rose (H.read_faults shelf.old name.now) (H.read_faults shelf.new name.now) }
 
@@ -112,7 +111,7 @@ fn close<H: Shelf>(
     ensures answer { IsUnread result ⊎ ForFile (H.files shelf.old) name.now
         (λ file. (I : Network) →
         IsAnswerFrom reader.old.limit I (NothingDue claim) line (rest_of reader.old file) file result) }
-    ensures yes { (shown : Claim) → result ≡ Ok (Verdict.Yes shown) → shown ≡ claim }
+    ensures kind { IsUnread result ⊎ MayClose claim line (unread reader.old) result }
     ensures failed { IsErrOf result CertFault.ReadFailed →
         Rose (H.read_faults shelf.old name.now) (H.read_faults shelf.new name.now) }
 
@@ -146,6 +145,8 @@ fn hand_out<H: Shelf>(
         HasFile (H.files shelf.old) name.now (λ _. ⊤)) }
     ensures unread { OnOk result (unread reader.old ≡ length reader.new.line + 1 + unread reader.new) }
     ensures same_limit { reader.new.limit ≡ reader.old.limit }
+
+    ensures kind { IfErr result (λ fault. IsUnread (Err fault) ⊎ MayMiss line fault) }
 
     // Where no line feed is left, a line is due that the file doesn't have.
     ensures none { IfErr result (λ fault. IsUnread (Err fault) ⊎ HasFile (H.files shelf.old) name.now

@@ -20,6 +20,7 @@ pub mod SpelledSteps
 pub mod SpelledHead
 pub mod SpelledClaim
 pub mod SpelledPlan
+pub mod PlansShown
 pub mod SpelledNode
 pub mod SpelledValues
 pub mod SpelledPrices

@@ -44,15 +44,15 @@ open_read I claim line next shown e =
     }
 
 -- the sites of the customers, which are among the instance's
-record ServeRead (I : Instance) (claim : Claim) (sites : List ℕ) (line : List ℕ) (next : Due) (shown : Shown) : Type 0 where
-  servers : List ℕ
+pub record ServeRead (I : Instance) (claim : Claim) (sites : List ℕ) (line : List ℕ) (next : Due) (shown : Shown) : Type 0 where
+  pub servers : List ℕ
   spelled : line ≡ counts_line (codes "serve") servers
-  long : length servers ≡ length (customer_ids I)
+  pub long : length servers ≡ length (customer_ids I)
   known : All (Contains (site_ids I)) servers
   next_is : next ≡ NodeDue claim []
-  shown_is : shown ≡ PlanShown claim (plan_from I sites servers)
+  pub shown_is : shown ≡ PlanShown claim (plan_from I sites servers)
 
-serve_read : (I : Instance) (claim : Claim) (sites : List ℕ) (line : List ℕ) (next : Due) (shown : Shown) → read_serve I claim sites line ≡ Ok (next, shown) → ServeRead I claim sites line next shown
+pub serve_read : (I : Instance) (claim : Claim) (sites : List ℕ) (line : List ℕ) (next : Due) (shown : Shown) → read_serve I claim sites line ≡ Ok (next, shown) → ServeRead I claim sites line next shown
 serve_read I claim sites line next shown e =
     let due = passes _ _ _ _ e in
     let plain = passes _ _ _ _ due.1 in

@@ -2,3 +2,4 @@ pub mod Rising
 pub mod Tested
 pub mod Served
 pub mod Sums
+pub mod Faults

@@ -1,4 +1,5 @@
 pub mod Counts
 pub mod ReadRows
 pub mod PlainRows
+pub mod Meant
 pub mod Whole

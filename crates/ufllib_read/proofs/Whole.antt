@@ -1,7 +1,7 @@
 -- From the parts of a file to the whole.
 use Rattle.std.proofs.Common.{◌≡◌, ℕ, List, Result, Ok, Err, IfOk, refl, sym, ap, subst, ◌∙◌}
 use Rattle.std.specs.Prelude.{IfErr}
-use Rattle.location_terms.specs.Instance.{Instance}
+use Rattle.location_terms.specs.Instance.{Instance, IsValid}
 use Rattle.location_terms.specs.Plain.{IsPlain}
 use Rattle.fixed_cost.specs.declared.fault.FileFault.{FileFault}
 use Rattle.fixed_cost.specs.declared.fault.FormFault.{FormFault}
@@ -12,6 +12,7 @@ use Rattle.instance_store.specs.declared.rows.SiteRow.{SiteRow}
 use Rattle.ufllib_read.specs.Ufl.{sizes_at, site_at, ufl_instance, ufl_at}
 use Rattle.ufllib_read.specs.Sizes.{AreSizes}
 use Rattle.ufllib_read.proofs.ReadRows.{rows_were_read}
+use Rattle.ufllib_read.proofs.Meant.{valid-ufl}
 use Rattle.ufllib_read.proofs.PlainRows.{plain-ufl}
 
 module _ (r : Rest) (m n : ℕ) (behind_head : Rest) (rows : List SiteRow) (behind_rows : Rest) (head : sizes_at r ≡ Ok ((m, n), behind_head)) (body : many_at (site_at n) 1 m behind_head ≡ Ok (rows, behind_rows)) where
@@ -31,3 +32,7 @@ module _ (r : Rest) (m n : ℕ) (behind_head : Rest) (rows : List SiteRow) (behi
   pub stored-plain : (result : Result Instance FormFault) → AreSizes m n → IfOk result (λ I. I ≡ ufl_instance m n rows) → IfOk result IsPlain
   stored-plain (Ok I) sizes is = subst IsPlain (sym is) (plain-ufl m n rows sizes (rows_were_read m n behind_head rows behind_rows body))
   stored-plain (Err fault) sizes is = tt
+
+  pub stored-valid : (result : Result Instance FormFault) → AreSizes m n → IfOk result (λ I. I ≡ ufl_instance m n rows) → IfOk result IsValid
+  stored-valid (Ok I) sizes is = subst IsValid (sym is) (valid-ufl m n behind_head rows behind_rows sizes body)
+  stored-valid (Err fault) sizes is = tt

@@ -7,14 +7,17 @@
 #![tactic(auto)]
 
 ghost use Rattle.std.specs.Prelude.{◌≡◌, ◌≤◌, ◌^◌, length, IfOk};
+ghost use Rattle.location_terms.specs.Instance.{IsValid};
 ghost use Rattle.location_terms.specs.Plain.{IsPlain};
 ghost use Rattle.fixed_cost.specs.Reading.{Means};
 ghost use Rattle.ufllib_read.specs.Ufl.{ufl_meaning};
 
+mod laws;
 mod rows;
 
 use fixed_cost::{FormFault, WordReader};
 use instance_store::Instance;
+pub use laws::meanings;
 use std::alloc::Global;
 
 /// The instance that a file of at most 2^28 bytes means, with sites 1, 2, 3 and so on and customers
@@ -24,6 +27,7 @@ use std::alloc::Global;
 pub fn read(alloc: Global, bytes: &[u8]) -> Result<Instance, FormFault>
     requires { length bytes.now ≤ 2 ^ 28 }
     ensures meaning { Means (λ inst. inst) result (ufl_meaning bytes.now) }
+    ensures valid { IfOk result IsValid }
     ensures plain { IfOk result IsPlain }
 {
     let mut reader = WordReader::new(bytes);

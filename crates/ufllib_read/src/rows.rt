@@ -1,6 +1,7 @@
 //! The parts of a file: its head, and a row for each facility.
 
 ghost use Rattle.std.specs.Prelude.{◌≡◌, ◌+◌, ◌≤◌, ◌*◌, IfOk, IsOkUnless};
+ghost use Rattle.location_terms.specs.Instance.{IsValid};
 ghost use Rattle.location_terms.specs.Plain.{IsPlain};
 ghost use Rattle.fixed_cost.specs.Reading.{size_at, many_at, Reads, ReadsForm, Means};
 ghost use Rattle.fixed_cost.specs.declared.fault.FileKind.TheVariants.{BadSize};
@@ -25,6 +26,7 @@ struct Sizes {
 #[tactic(auto, unfolding(crate::specs::Ufl::ufl_at))]
 pub(crate) fn instance(alloc: Global, mut reader: WordReader<'_>) -> Result<Instance, FormFault>
     ensures meaning { Means (λ inst. inst) result (ufl_at reader.entry) }
+    ensures valid { IfOk result IsValid }
     ensures plain { IfOk result IsPlain }
 {
     let sizes = read_sizes(&mut reader)?;

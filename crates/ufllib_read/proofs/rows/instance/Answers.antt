@@ -1,7 +1,7 @@
 use Rattle.std.proofs.Common.{sym}
 use Rattle.std.proofs.lemmas.Result.{err_from_is_err_and}
 use Rattle.ufllib_read.proofs.ReadRows.{rows_were_read, are_parts}
-use Rattle.ufllib_read.proofs.Whole.{trails, stored-means, stored-plain}
+use Rattle.ufllib_read.proofs.Whole.{trails, stored-means, stored-plain, stored-valid}
 use Rattle.ufllib_read.proofs.rows.instance.Goals as goal
 
 pub returns-in_err-finish-clause-meaning : goal.returns-in_err-finish-clause-meaning
@@ -24,3 +24,8 @@ pub returns-clause-plain : goal.returns-clause-plain
 returns-clause-plain c =
     let s = c.in_ok-sizes.sizes in
     stored-plain c.args.reader s.sites s.custs c.read_sizes.new.reader c.in_ok-sites.sites.items c.read_sites.new.reader c.in_ok-sizes.ensures.read c.in_ok-sites.ensures c.store.result c.in_ok-sizes.ensures.within c.store.ensures.instance
+
+pub returns-clause-valid : goal.returns-clause-valid
+returns-clause-valid c =
+    let s = c.in_ok-sizes.sizes in
+    stored-valid c.args.reader s.sites s.custs c.read_sizes.new.reader c.in_ok-sites.sites.items c.read_sites.new.reader c.in_ok-sizes.ensures.read c.in_ok-sites.ensures c.store.result c.in_ok-sizes.ensures.within c.store.ensures.instance

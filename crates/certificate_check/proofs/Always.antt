@@ -1,0 +1,104 @@
+-- There is a verdict on any bytes: against what a line shows something speaks, or it stands.
+use Rattle.std.proofs.Common.{◌≡◌, ◌⊎◌, ℕ, ◌+◌, ◌<◌, ◌≤◌, ◌==◌, Bool, true, false, List, [], ◌∷◌, length, take, refl, sym, ap, ◌∙◌, subst, arith, inl, inr, Ok, Err, zero, suc}
+use Rattle.std.specs.Prelude.{Option, None, Some, IsSomeAnd, ℤ, pos, ◌-ℤ◌, ◌*ℤ◌, ◌≤ℤ◌, ◌<ℤ◌, nat_lt, if◌then◌else◌}
+use Rattle.std.specs.List.{slice_split}
+use Rattle.std.proofs.lemmas.Bool.{cases_Bool, eqb-true, true≢false}
+use Rattle.std.proofs.lemmas.Int.{by_lt_z, ints}
+use Rattle.fixed_cost.specs.Words.{is_line_feed}
+use Rattle.shelf_lines.proofs.Split.{some_piece}
+use Rattle.location_terms.specs.declared.claim.Claim.{Claim}
+use Rattle.location_terms.specs.Instance.{Instance, IsValid}
+use Rattle.location_terms.specs.Plan.{Plan, cost_of}
+use Rattle.location_terms.specs.Bound.{bound_of}
+use Rattle.location_terms.specs.Fit.{BoundCloses}
+use Rattle.plan_meaning.proofs.Faults.{OrNot, same_or_not-number, feasible_or_fault}
+use Rattle.certificate_lines.specs.Due.{Due, HeaderDue, Shown, NothingShown, PlanShown, SiteShown, LaneShown, LeafShown, Suits}
+use Rattle.certificate_lines.specs.Follow.{cost_claimed}
+use Rattle.certificate_lines.specs.Lines.{Said, read_line}
+use Rattle.certificate_lines.proofs.Gives.{gives-line}
+use Rattle.certificate_lines.proofs.PlansShown.{IsPlanned, plan-line}
+use Rattle.certificate_check.specs.declared.verdict.Why.{Why}
+use Rattle.certificate_check.specs.declared.verdict.Why.TheVariants.{PlanRefused, CostDiffers, LeafOpen}
+use Rattle.certificate_check.specs.declared.verdict.Verdict.TheVariants.{No}
+use Rattle.certificate_check.specs.Judgement.{target_of, IsAgainst, Stands}
+use Rattle.certificate_check.specs.Verdict.{Answer, Outcome, Decided, fault_in, line_of, at_rest, TakesLine, LeadsTo, ComesTo, at_end, past_limit, IsVerdict, IsAnswer}
+
+-- whether an optional cost is this one
+is_cost : (cost : ℕ) (claimed : Option ℕ) → OrNot (Some cost ≡ claimed)
+is_cost cost None = inr (λ e. cc)
+is_cost cost (Some other) =
+    elim (same_or_not-number cost other) [
+      | inl same ↦ inl (ap Some same)
+      | inr differs ↦ inr (λ e. differs (cc))
+    ]
+
+above_or_not : (a b : ℤ) → OrNot (a <ℤ b)
+above_or_not a b = by_lt_z a b (λ above. inl above) (λ below. inr (λ above. absurd (omega (arith, ints, above, below))))
+
+up_to_or_not : (a b : ℤ) → OrNot (a ≤ℤ b)
+up_to_or_not a b = by_lt_z b a (λ above. inr (λ below. absurd (omega (arith, ints, above, below)))) (λ below. inl below)
+
+-- a bound at scale 0, and at a scale
+closes_empty : (bound : ℤ) (target : Option ℕ) → OrNot (BoundCloses bound 0 target)
+closes_empty bound target =
+    elim (up_to_or_not (pos 1) bound) [
+      | inl closed ↦ inl (inl (refl, closed))
+      | inr fails ↦ inr (λ closes. elim closes [ inl empty ↦ fails empty.1 | inr scaled ↦ absurd (omega (arith, scaled.0)) ])
+    ]
+
+closes_scaled : (bound : ℤ) (q : ℕ) (target : Option ℕ) → 1 ≤ q → OrNot (IsSomeAnd target (λ T. (pos q *ℤ (pos T -ℤ pos 1)) <ℤ bound)) → OrNot (BoundCloses bound q target)
+closes_scaled bound q target scale (inl closed) = inl (inr (scale, closed))
+closes_scaled bound q target scale (inr fails) = inr (λ closes. elim closes [ inl empty ↦ absurd (omega (arith, empty.0, scale)) | inr scaled ↦ fails scaled.1 ])
+
+closes_or_not : (bound : ℤ) (q : ℕ) (target : Option ℕ) → OrNot (BoundCloses bound q target)
+closes_or_not bound zero target = closes_empty bound target
+closes_or_not bound (suc q) None = closes_scaled bound (suc q) None (omega arith) (inr (λ e. e))
+closes_or_not bound (suc q) (Some T) = closes_scaled bound (suc q) (Some T) (omega arith) (above_or_not (pos (suc q) *ℤ (pos T -ℤ pos 1)) bound)
+
+-- what is shown stands, or something speaks against it
+judged : (I : Instance) (shown : Shown) → IsPlanned shown → Stands I shown ⊎ ((why : Why) × IsAgainst I shown why)
+judged I NothingShown planned = inl tt
+judged I (PlanShown claim P) planned =
+    elim (feasible_or_fault I P planned) [
+      | inl feasible ↦ elim (is_cost (cost_of I P) (cost_claimed claim)) [
+        | inl same ↦ inl (feasible, same)
+        | inr differs ↦ inr (CostDiffers (cost_of I P), (feasible, refl, differs))
+      ]
+      | inr fault ↦ inr (PlanRefused fault.0, fault.1)
+    ]
+judged I (SiteShown s) planned = inl tt
+judged I (LaneShown s c) planned = inl tt
+judged I (LeafShown claim path d) planned =
+    elim (closes_or_not (bound_of I path d) d.q (target_of claim)) [
+      | inl closed ↦ inl closed
+      | inr fails ↦ inr (LeafOpen (bound_of I path d) d.q, (refl, refl, fails))
+    ]
+
+-- a line leads to an outcome, if what follows it does
+takes_some : (I : Instance) (n : ℕ) (said : Said) (follows : Due → Outcome → Type 0)
+    → ((next : Due) (shown : Shown) → said ≡ Ok (next, shown) → IsPlanned shown × ((outcome : Outcome) × follows next outcome)) → (outcome : Outcome) × TakesLine I n said follows outcome
+takes_some I n (Err kind) follows more = (fault_in kind n, refl)
+takes_some I n (Ok (next, shown)) follows more =
+    let behind = more next shown refl in
+    elim (judged I shown behind.0) [
+      | inl stands ↦ (behind.1.0, inr (stands, behind.1.1))
+      | inr against ↦ (Decided (Ok (No (line_of shown n) against.0)), inl (against.0, against.1, refl))
+    ]
+
+leads_some : (I : Instance) (due : Due) (n : ℕ) (pieces : List (List ℕ)) → IsValid I → Suits I due → 0 < length pieces → (outcome : Outcome) × LeadsTo I due n pieces outcome
+leads_some I due n [] valid suits some = absurd (omega arith)
+leads_some I due n (rest ∷ []) valid suits some = (at_rest due n rest, refl)
+leads_some I due n (this ∷ next ∷ more) valid suits some =
+    takes_some I n (read_line I due this) (λ behind. LeadsTo I behind (n + 1) (next ∷ more))
+    (λ behind shown is. (plan-line I due this behind shown valid suits is, leads_some I behind (n + 1) (next ∷ more) valid ((gives-line I due this suits).good (behind, shown) is).0 (omega arith)))
+
+coming : (I : Instance) (bytes : List ℕ) → IsValid I → (outcome : Outcome) × ComesTo I bytes outcome
+coming I bytes valid = leads_some I HeaderDue 1 (slice_split is_line_feed bytes) valid tt (some_piece bytes)
+
+pub some_verdict : (I : Instance) (bytes : List ℕ) → IsValid I → (answer : Answer) × IsVerdict I bytes answer
+some_verdict I bytes valid = let outcome = coming I bytes valid in (at_end outcome.0, (outcome.0, outcome.1, refl))
+
+pub some_answer : (limit : ℕ) (I : Instance) (bytes : List ℕ) → IsValid I → (answer : Answer) × IsAnswer limit I bytes answer
+some_answer limit I bytes valid =
+    let outcome = coming I (take limit bytes) valid in
+    ((if nat_lt limit (length bytes) then past_limit outcome.0 else at_end outcome.0), (outcome.0, outcome.1, refl))
