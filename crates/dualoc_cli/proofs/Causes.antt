@@ -1,15 +1,32 @@
 -- That replies have their causes.
-use Rattle.std.proofs.Common.{◌≡◌, ℕ, ◌+◌, ◌<◌, ◌≤◌, List, length, Option, None, Some, sym, refl, ap, subst, inl, inr, arith}
+use Rattle.std.proofs.Common.{◌≡◌, ◌⊎◌, Ok, Err, ℕ, ◌+◌, ◌<◌, ◌≤◌, List, length, Option, None, Some, sym, refl, ap, subst, inl, inr, arith}
 use Rattle.std.specs.Prelude.{IsSomeAnd, replicate}
 use Rattle.std.specs.FinMap.{get}
 use Rattle.std.proofs.lemmas.List.{length-replicate}
 use Rattle.shelf_port.specs.Files.{Files, HasFile, MayHold, Rose, NeverFalls}
 use Rattle.shelf_port.specs.Ports.{ShelfState}
+use Rattle.location_terms.specs.Instance.{Instance, IsValid}
+use Rattle.location_terms.specs.Optimal.{ClaimHolds}
+use Rattle.location_terms.specs.Certificate.{Certificate, IsAccepted}
+use Rattle.location_terms.specs.declared.claim.Claim.{Claim}
+use Rattle.location_terms.proofs.Claims.{claim_holds}
+use Rattle.ufllib_read.proofs.Meant.{valid-meant}
+use Rattle.certificate_lines.specs.Text.{certificate_text}
+use Rattle.certificate_lines.specs.Follow.{HasSmallCosts}
+use Rattle.certificate_lines.specs.declared.kind.CertKind.{CertKind}
+use Rattle.certificate_lines.specs.declared.limits.TheConstants.{MAX_CERTIFICATE_BYTES}
+use Rattle.certificate_lines.specs.declared.fault.CertFault.TheVariants.{Text, TooLong}
+use Rattle.certificate_check.specs.declared.verdict.Verdict.{Verdict}
+use Rattle.certificate_check.specs.declared.verdict.Verdict.TheVariants.{Yes, No}
+use Rattle.certificate_check.specs.Verdict.{Answer, IsAnswer}
+use Rattle.certificate_check.specs.Step.{IsUnread}
+use Rattle.dualoc_cli.specs.declared.words.FileForm.{FileForm}
+use Rattle.dualoc_cli.specs.declared.words.FileForm.TheVariants.{Ufl}
 use Rattle.dualoc_cli.specs.declared.limits.TheConstants.{MAX_INSTANCE_BYTES}
 use Rattle.dualoc_cli.specs.declared.reply.Reply.{Reply}
 use Rattle.dualoc_cli.specs.declared.reply.Reply.TheVariants.{NoCommand, InstanceUnread, LongInstance, Faulty, ManySites, Optimum, CertificateUnread, LongCertificate, Misspelt, Judged}
-use Rattle.dualoc_cli.specs.Command.{InstanceFile, Job, OnFile, command_of}
-use Rattle.dualoc_cli.specs.Due.{Run, IsTooLong, FailsToRead, IsCause}
+use Rattle.dualoc_cli.specs.Command.{InstanceFile, Job, OnFile, Check, command_of, meaning_of}
+use Rattle.dualoc_cli.specs.Due.{Run, IsTooLong, HasTask, FailsToRead, IsAnswered, IsConfirmed, IsCause}
 use Rattle.dualoc_cli.specs.Step.{Covers, IsPrintable}
 
 -- the text of a reply that has its cause can be made
@@ -58,3 +75,64 @@ rose_over a b c d since until rose = elim rose [ inl above ↦ inl (omega arith)
 pub fails_in : (r : Run) (old new : ShelfState) (name : List ℕ) → Covers r old new → Rose (old.reads name) (new.reads name) → FailsToRead r name
 fails_in r old new name part rose =
     rose_over (r.before.shelf.reads name) (old.reads name) (new.reads name) (r.after.shelf.reads name) (part.since name) (part.until name) rose
+
+-- the instance of a task is valid
+valid_in : (form : FileForm) (given : Option ℕ) (bytes : List ℕ) (I : Instance) → meaning_of form given bytes ≡ Ok I → IsValid I
+valid_in Ufl given bytes I means = valid-meant bytes I means
+
+pub task_valid : (r : Run) (job : Job) (I : Instance) → HasTask r job I → IsValid I
+task_valid r job I task = valid_in task.file.form task.file.given task.bytes I task.means
+
+-- what the checker answered in a part of a run, as the cause of a reply
+module _ (r : Run) (old new : ShelfState) (name : List ℕ) (I : Instance) (task : HasTask r (Check name) I) (part : Covers r old new) where
+  abbrev Seen : Answer → Type 0
+  Seen answer = IsUnread answer ⊎ ((bytes : List ℕ) × MayHold old.files name bytes × IsAnswer MAX_CERTIFICATE_BYTES I bytes answer)
+
+  pub answered : (answer : Answer) → (IsUnread answer → ⊥) → Seen answer → IsAnswered r answer
+  answered answer decided (inl unread) = absurd (decided unread)
+  answered answer decided (inr seen) =
+      record { instance = I; name = name; task = task; bytes = seen.0; held = subst (λ f. MayHold f name seen.0) part.files seen.1; answered = seen.2 }
+
+  abbrev Shown : Claim → Type 0
+  Shown claim =
+      (cert : Certificate) × MayHold old.files name (certificate_text I cert) × IsAccepted I cert × (cert.claim ≡ claim) × HasSmallCosts claim
+      × (length (certificate_text I cert) ≤ MAX_CERTIFICATE_BYTES)
+
+  confirmed : (claim : Claim) → Shown claim → IsConfirmed r claim
+  confirmed claim shown =
+      let cert = shown.0 in
+      record {
+        instance = I;
+        name = name;
+        task = task;
+        cert = cert;
+        held = subst (λ f. MayHold f name (certificate_text I cert)) part.files shown.1;
+        deserved = record { accepted = shown.2; small = subst HasSmallCosts (sym shown.3) shown.4; within = shown.5 };
+        claims = shown.3;
+        holds = subst (λ c. ClaimHolds I c cert.plan) shown.3 (claim_holds I (task_valid r (Check name) I task) cert.claim cert.plan cert.tree shown.2.shows);
+      }
+
+  read_answer : (verdict : Verdict) → IsUnread (Ok verdict) → ⊥
+  read_answer verdict (inl e) = cc
+  read_answer verdict (inr e) = cc
+
+  pub judged : (verdict : Verdict) → Seen (Ok verdict) → ((claim : Claim) → ◌≡◌ {A = Answer} (Ok verdict) (Ok (Yes claim)) → Shown claim) → IsCause r (Judged verdict)
+  judged (Yes claim) seen shows = confirmed claim (shows claim refl)
+  judged (No line why) seen shows = answered (Ok (No line why)) (read_answer (No line why)) seen
+
+  text_unread : (kind : CertKind) (line : ℕ) → IsUnread (Err (Text kind line)) → ⊥
+  text_unread kind line (inl e) = cc
+  text_unread kind line (inr e) = cc
+
+  pub misspelt : (kind : CertKind) (line : ℕ) → Seen (Err (Text kind line)) → IsCause r (Misspelt kind line)
+  misspelt kind line seen = answered (Err (Text kind line)) (text_unread kind line) seen
+
+  long_unread : IsUnread (Err TooLong) → ⊥
+  long_unread (inl e) = cc
+  long_unread (inr e) = cc
+
+  pub long : Seen (Err TooLong) → IsCause r LongCertificate
+  long seen = answered (Err TooLong) long_unread seen
+
+  pub unread : Rose (old.reads name) (new.reads name) → IsCause r CertificateUnread
+  unread rose = record { instance = I; name = name; task = task; fails = fails_in r old new name part rose }

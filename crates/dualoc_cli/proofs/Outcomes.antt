@@ -15,6 +15,9 @@ use Rattle.certificate_lines.specs.declared.fault.CertFault.TheVariants as unrea
 use Rattle.certificate_check.specs.declared.verdict.Verdict.TheVariants.{Yes, No}
 use Rattle.certificate_check.specs.Verdict.{Answer, IsAnswer}
 use Rattle.certificate_check.proofs.One.{one_answer}
+use Rattle.certificate_check.proofs.Meaning.{accepted_yes_within}
+use Rattle.location_terms.specs.Certificate.{Certificate}
+use Rattle.dualoc_cli.proofs.Causes.{task_valid}
 use Rattle.certificate_lines.specs.Text.{certificate_text}
 use Rattle.location_terms.specs.declared.claim.Claim.{Claim}
 use Rattle.dualoc_cli.specs.declared.limits.TheConstants.{MAX_INSTANCE_BYTES}
@@ -25,7 +28,7 @@ use Rattle.dualoc_cli.specs.declared.reply.Reply.TheVariants.{NoCommand, Instanc
 use Rattle.dualoc_cli.specs.Command.{Command, OnFile, InstanceFile, Job, SolveShort, Check, command_of, meaning_in}
 use Rattle.dualoc_cli.specs.Status.{when_cut}
 use Rattle.dualoc_cli.specs.Reply.{status_of, text_of}
-use Rattle.dualoc_cli.specs.Due.{Run, AsksFor, HasTask, InstanceFails, CertificateFails, HasManySites, HasFault, IsAnswered, IsConfirmed, IsCause, PrintsWhole, PrintsFront, Ends, Keeps, Leaves, ChangesNothing, IsTold, IsHindered, MemoryRanOut, InstanceFailed, CertificateFailed, OutputFailed, EndsAs, DeservesYes, IsComplete, Runs}
+use Rattle.dualoc_cli.specs.Due.{Run, AsksFor, HasTask, InstanceFails, CertificateFails, HasManySites, HasFault, IsAnswered, IsConfirmed, IsCause, PrintsWhole, PrintsFront, IsPrinted, Ends, Keeps, Leaves, ChangesNothing, IsTold, IsHindered, MemoryRanOut, InstanceFailed, CertificateFailed, OutputFailed, EndsAs, DeservesYes, IsComplete, Runs}
 
 pub leaves : (asked : Option Command) (before after : Ports) → ChangesNothing before after → Leaves asked before after
 leaves None before after same = same
@@ -135,9 +138,10 @@ module _ (r : Run) where
   -- an accepted certificate's yes is due
   accepted_is_due : (I : Instance) (name : List ℕ) (cert : Certificate) → HasTask r (Check name) I → DeservesYes I cert
       → MayHold r.before.shelf.files name (certificate_text I cert) → IsDue Done
+  unfolding status_in
   accepted_is_due I name cert task deserved held =
       task_is_due (Check name) I Done task
-      (certificate_text I cert, held, (Ok (Yes cert.claim), ?, refl))
+      (certificate_text I cert, held, (Ok (Yes cert.claim), accepted_yes_within MAX_CERTIFICATE_BYTES I cert (task_valid r (Check name) I task) deserved.accepted deserved.small deserved.within, refl))
 
   -- a cause gives the status of its reply, or is a read that failed
   cause_is_due : (reply : Reply) → IsCause r reply → IsDue (status_of reply) ⊎ (ReadFails × (status_of reply ≡ ReadFault))
@@ -257,6 +261,13 @@ module _ (r : Run) where
         | inl whole ↦ not_memory whole.status_is
         | inr front ↦ elim front.status_is [ inl cut ↦ not_memory cut.1 | inr out ↦ not_memory out ]
       ])
+
+  -- a reply that has its cause was printed, or memory ran out before its text was there
+  pub ended : (status : Status) (reply : Reply) → IsCause r reply
+      → IsPrinted (text_of reply) (status_of reply) status r.before.output r.after.output ⊎ IsPrinted (codes "no memory\n") NoMemory status r.before.output r.after.output
+      → Ends r status
+  ended status reply cause (inl printed) = inl (record { reply = reply; cause = cause; printed = printed })
+  ended status reply cause (inr none) = inr none
 
   pub runs : (status : Status) → Ends r status → Leaves (command_of r.words) r.before r.after → Runs r status
   runs status ends kept =

@@ -1,6 +1,5 @@
 //! A whole run of the program.
-ghost use Rattle.std.specs.Prelude.{map, string_bytes};
-ghost use Rattle.std.specs.Prelude.{◌⊎◌, codes};
+ghost use Rattle.std.specs.Prelude.{◌⊎◌, codes, map, string_bytes};
 ghost use Rattle.shelf_port.specs.Ports.{shelf_state, source_state, sink_state, ports_of};
 ghost use Rattle.dualoc_cli.specs.Reply.{status_of, text_of};
 ghost use Rattle.dualoc_cli.specs.Due.{run_of, Runs, IsPrinted};
@@ -26,7 +25,7 @@ pub fn run<H: Shelf, I: Source, O: Sink>(
     input: &mut I,
     out: &mut O,
 ) -> Status
-    ensures runs { Runs (run_of (map string_bytes words.now)
+    ensures { Runs (run_of (map string_bytes words.now)
         (ports_of (shelf_state (H.files shelf.old) (H.read_faults shelf.old) (H.write_faults shelf.old))
         (source_state (I.left input.old) (I.faults input.old))
         (sink_state (O.written out.old) (O.faults out.old) (O.refusals out.old)))

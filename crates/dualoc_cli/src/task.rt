@@ -19,11 +19,7 @@ use shelf_port::{ReadWhole, Shelf, read_whole};
 use std::alloc::Global;
 
 /// What is answered to the words of a command line. The files are only read.
-pub fn reply_to<H: Shelf>(
-    alloc: Global,
-    words: &[String],
-    shelf: &mut H,
-) -> Result<Reply, NoMemory>
+pub fn reply_to<H: Shelf>(alloc: Global, words: &[String], shelf: &mut H) -> Result<Reply, NoMemory>
     ensures cause { IfOk result (λ reply. (r : Run) → r.words ≡ map string_bytes words.now →
         Covers r (shelf_state (H.files shelf.old) (H.read_faults shelf.old) (H.write_faults shelf.old))
         (shelf_state (H.files shelf.new) (H.read_faults shelf.new) (H.write_faults shelf.new)) →
@@ -37,11 +33,7 @@ pub fn reply_to<H: Shelf>(
 }
 
 // What is answered to a command.
-fn answer<H: Shelf>(
-    alloc: Global,
-    command: Command<'_>,
-    shelf: &mut H,
-) -> Result<Reply, NoMemory>
+fn answer<H: Shelf>(alloc: Global, command: Command<'_>, shelf: &mut H) -> Result<Reply, NoMemory>
     ensures cause { IfOk result (λ reply. (r : Run) → command_of r.words ≡ Some (asked command.entry) →
         Covers r (shelf_state (H.files shelf.old) (H.read_faults shelf.old) (H.write_faults shelf.old))
         (shelf_state (H.files shelf.new) (H.read_faults shelf.new) (H.write_faults shelf.new)) →

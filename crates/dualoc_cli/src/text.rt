@@ -1,5 +1,6 @@
 //! The texts of replies.
-ghost use Rattle.std.specs.Prelude.{◌≡◌, IfOk};
+ghost use Rattle.std.specs.Prelude.{◌≡◌, ◌++◌, IfOk, OnOk};
+ghost use Rattle.number_words.specs.Number.{number_text};
 ghost use Rattle.dualoc_cli.specs.Reply.{text_of, no_text};
 ghost use Rattle.dualoc_cli.specs.Step.{IsPrintable};
 
@@ -11,7 +12,7 @@ use location_terms::Claim;
 use number_words::print_number;
 use plan_meaning::PlanFault;
 use report::{plan_text, push_claim};
-use std::alloc::Global;
+use std::alloc::{AllocError, Global};
 
 /// The text of a reply, as it is printed.
 ///
@@ -102,11 +103,17 @@ fn differs(alloc: Global, line: u64, found: u64) -> Result<Vec<u8>, NoMemory>
 fn open(alloc: Global, line: u64, bound: i128, q: u32) -> Result<Vec<u8>, NoMemory>
     ensures { IfOk result (λ text. text.items ≡ no_text line (Why.LeafOpen bound q)) }
 {
+    let mut text = format!(in alloc; "no LeafOpen line {line} bound ")?.into_bytes();
+    push_bound(&mut text, bound)?;
+    let scale = format!(in alloc; " scale {q}\n")?;
+    text.extend_from_slice(scale.as_bytes())?;
+    Ok(text)
+}
+
+fn push_bound(text: &mut Vec<u8>, bound: i128) -> Result<(), AllocError>
+    ensures { OnOk result (text.new.items ≡ text.old.items ++ number_text bound) }
+{
     let mut buffer = [0; 40];
     let len = print_number(bound, &mut buffer);
-    let mut text = format!(in alloc; "no LeafOpen line {line} bound ")?.into_bytes();
-    text.extend_from_slice(&buffer[..len])?;
-    let rest = format!(in alloc; " scale {q}\n")?;
-    text.extend_from_slice(rest.as_bytes())?;
-    Ok(text)
+    text.extend_from_slice(&buffer[..len])
 }
