@@ -1,5 +1,7 @@
 -- How many calls on the host failed.
 use Rattle.std.specs.Prelude.{ℕ}
+use Rattle.shelf_port.specs.Streams.{Refusals}
+use Rattle.shelf_port.specs.RefusalCount.{counted}
 use Rattle.shelf_port.specs.declared.real.RealShelf.{RealShelf}
 use Rattle.shelf_port.specs.declared.real.RealSource.{RealSource}
 use Rattle.shelf_port.specs.declared.real.RealSink.{RealSink}
@@ -19,3 +21,7 @@ input_faults source = source.faults
 -- of the writes of the output
 abbrev pub output_faults : {R : Type 0} → RealSink R → ℕ
 output_faults sink = sink.faults
+
+-- which writes of the output were refused
+abbrev pub output_refusals : {R : Type 0} → RealSink R → Refusals
+output_refusals sink = counted sink.refusals

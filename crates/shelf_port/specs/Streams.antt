@@ -16,6 +16,10 @@ pub record Refusals : Type 0 where
   pub count : ℕ
   pub last : Bool
 
+-- before the first call
+abbrev pub no_refusals : Refusals
+no_refusals = record { count = 0; last = false }
+
 -- once one more call was taken
 abbrev pub taken : Refusals → Refusals
 taken r = record { count = r.count; last = false }

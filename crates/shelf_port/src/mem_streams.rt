@@ -1,12 +1,13 @@
 // An input and an output in memory.
-ghost use Rattle.std.specs.Prelude.{◌≡◌, ◌<◌, ◌≤◌, ◌↔◌, [], length, take, drop, Some, IfOk, OnErr, IsErrOf};
-ghost use Rattle.shelf_port.specs.Files.{Rose};
+ghost use Rattle.std.specs.Prelude.{◌≡◌, ◌<◌, ◌≤◌, ◌↔◌, [], length, take, drop, Some, IfOk, OnOk, OnErr, IsErrOf};
+ghost use Rattle.shelf_port.specs.Files.{Rose, CountsOnly};
 ghost use Rattle.shelf_port.specs.Plan.{NextFails, after_call};
-ghost use Rattle.shelf_port.specs.Streams.{with_front, with_back};
+ghost use Rattle.shelf_port.specs.Streams.{with_front, with_back, no_refusals, taken, refused};
 
 use crate::fault::{SinkFault, SourceFault};
 use crate::plan::{CallPlan, copy_from};
 use crate::ports::{Sink, Source};
+use crate::refusal_count::RefusalCount;
 use std::alloc::Global;
 
 /// An input in memory. It tells what is left. Of its calls those with given numbers fail.
@@ -74,6 +75,10 @@ impl Source for MemSource {
             Rose (read_faults_of self.old) (read_faults_of self.new) }
         ensures counts { read_faults_of self.old ≤ read_faults_of self.new }
 
+        // A fault is counted once, and no call counts another.
+        ensures counts_only { CountsOnly (IsErrOf result SourceFault.Failed)
+            (read_faults_of self.old) (read_faults_of self.new) }
+
         // It fails exactly where it is one of the calls that are to fail.
         ensures planned { IsErrOf result SourceFault.Failed ↔ NextFails (input_plan self.old) }
         ensures plan { input_plan self.new ≡ after_call (input_plan self.old) }
@@ -95,10 +100,11 @@ pub struct MemSink {
     written: Vec<u8>,
     plan: CallPlan,
     faults: u64,
+    refusals: RefusalCount,
 }
 
 impl MemSink {
-    ghost use Rattle.shelf_port.specs.MemStreams.{written_to, output_plan, write_faults_of};
+    ghost use Rattle.shelf_port.specs.MemStreams.{written_to, output_plan, write_faults_of, refusals_of};
 
     /// An empty output. Its calls with the numbers `fails`, counted from 1, answer `Failed`.
     pub fn new(alloc: Global, fails: Vec<u64>) -> Self
@@ -106,11 +112,13 @@ impl MemSink {
         ensures failing { (output_plan result).failing ≡ fails }
         ensures made { (output_plan result).made ≡ 0 }
         ensures faults { write_faults_of result ≡ 0 }
+        ensures refusals { refusals_of result ≡ no_refusals }
     {
         MemSink {
             written: Vec::new(alloc),
             plan: CallPlan::new(fails),
             faults: 0,
+            refusals: RefusalCount::new(),
         }
     }
 
@@ -122,11 +130,13 @@ impl MemSink {
         ensures failing { (output_plan result).failing ≡ (output_plan self).failing }
         ensures made { (output_plan result).made ≡ (output_plan self).made }
         ensures faults { write_faults_of result ≡ write_faults_of self }
+        ensures refusals { refusals_of result ≡ refusals_of self }
     {
         MemSink {
             written: self.written,
             plan: self.plan.in_pieces(width),
             faults: self.faults,
+            refusals: self.refusals,
         }
     }
 
@@ -140,11 +150,13 @@ impl MemSink {
 
 impl Sink for MemSink {
     ghost use Rattle.std.specs.Prelude.{Some};
-    ghost use Rattle.shelf_port.specs.MemStreams.{written_to, output_plan, write_faults_of};
+    ghost use Rattle.shelf_port.specs.MemStreams.{written_to, output_plan, write_faults_of, refusals_of};
 
     ghost written = { λ s. Some (written_to s) };
 
     ghost faults = { λ s. s.faults };
+
+    ghost refusals = { λ s. refusals_of s };
 
     fn write(&mut self, bytes: &[u8]) -> Result<usize, SinkFault>
         ensures bound { IfOk result (λ n. n ≤ length bytes.now) }
@@ -156,6 +168,12 @@ impl Sink for MemSink {
         ensures failed { IsErrOf result SinkFault.Failed →
             Rose (write_faults_of self.old) (write_faults_of self.new) }
         ensures counts { write_faults_of self.old ≤ write_faults_of self.new }
+        ensures taken { OnOk result (refusals_of self.new ≡ taken (refusals_of self.old)) }
+        ensures refused { OnErr result (refusals_of self.new ≡ refused (refusals_of self.old)) }
+
+        // A fault is counted once, and no call counts another.
+        ensures counts_only { CountsOnly (IsErrOf result SinkFault.Failed)
+            (write_faults_of self.old) (write_faults_of self.new) }
 
         // It fails exactly where it is one of the calls that are to fail.
         ensures planned { IsErrOf result SinkFault.Failed ↔ NextFails (output_plan self.old) }
@@ -164,10 +182,19 @@ impl Sink for MemSink {
     {
         if self.plan.next_fails() {
             self.faults = self.faults.saturating_add(1);
+            self.refusals.refuse();
             return Err(SinkFault::Failed);
         }
         let count = self.plan.part_of(bytes.len());
-        self.written.extend_from_slice(&bytes[..count])?;
-        Ok(count)
+        match self.written.extend_from_slice(&bytes[..count]) {
+            Ok(()) => {
+                self.refusals.take();
+                Ok(count)
+            }
+            Err(e) => {
+                self.refusals.refuse();
+                Err(SinkFault::from(e))
+            }
+        }
     }
 }

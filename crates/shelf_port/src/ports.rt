@@ -1,7 +1,7 @@
 // The outside as traits: files by name, an input, an output.
 ghost use Rattle.std.specs.Prelude.{◌≡◌, ◌⊎◌, ℕ, ◌<◌, ◌≤◌, List, [], length, take, drop, Option, IfSome, IfOk, OnOk, OnErr, IsErrOf};
 ghost use Rattle.shelf_port.specs.Files.{Files, with_file, with_added, HasFile, Reads, Rose, NeverFalls};
-ghost use Rattle.shelf_port.specs.Streams.{with_front, with_back};
+ghost use Rattle.shelf_port.specs.Streams.{with_front, with_back, Refusals, taken, refused};
 
 use crate::fault::{ShelfFault, SinkFault, SourceFault};
 
@@ -89,6 +89,9 @@ pub trait Sink {
     /// How many writes failed.
     ghost faults: { Self → ℕ };
 
+    /// How many calls were refused, for whatever cause, and whether the last one was.
+    ghost refusals: { Self → Refusals };
+
     /// Writes bytes from the front of a piece, and answers how many. Of a piece that isn't empty it
     /// takes at least one.
     fn write(&mut self, bytes: &[u8]) -> Result<usize, SinkFault>
@@ -100,5 +103,7 @@ pub trait Sink {
 
         ensures failed { IsErrOf result SinkFault.Failed →
             Rose (faults self.old) (faults self.new) }
-        ensures counts { faults self.old ≤ faults self.new };
+        ensures counts { faults self.old ≤ faults self.new }
+        ensures taken { OnOk result (refusals self.new ≡ taken (refusals self.old)) }
+        ensures refused { OnErr result (refusals self.new ≡ refused (refusals self.old)) };
 }

@@ -2,10 +2,12 @@
 // hold, so nothing is proved of it. Each fault is counted.
 ghost use Rattle.std.specs.Prelude.{◌≡◌, ◌<◌, ◌≤◌, length, None, IfOk};
 ghost use Rattle.shelf_port.specs.Files.{Rose};
-ghost use Rattle.shelf_port.specs.Real.{file_read_faults, file_write_faults, input_faults, output_faults};
+ghost use Rattle.shelf_port.specs.Streams.{no_refusals};
+ghost use Rattle.shelf_port.specs.Real.{file_read_faults, file_write_faults, input_faults, output_faults, output_refusals};
 
 use crate::fault::{ShelfFault, SinkFault, SourceFault};
 use crate::ports::{Shelf, Sink, Source};
+use crate::refusal_count::RefusalCount;
 use std::fs::{Files, OpenOptions};
 use std::io::{ErrorKind, Read, Seek, SeekFrom, Write};
 use std::{fs, io};
@@ -32,6 +34,20 @@ impl<R: Files> RealShelf<R> {
             read_faults: 0,
             write_faults: 0,
         }
+    }
+
+    /// How many reads failed.
+    pub fn read_faults(&self) -> u64
+        ensures { result ≡ file_read_faults self.now }
+    {
+        self.read_faults
+    }
+
+    /// How many writes failed.
+    pub fn write_faults(&self) -> u64
+        ensures { result ≡ file_write_faults self.now }
+    {
+        self.write_faults
     }
 }
 
@@ -78,6 +94,13 @@ impl<R: Input> RealSource<R> {
     {
         RealSource { rt, faults: 0 }
     }
+
+    /// How many reads failed.
+    pub fn faults(&self) -> u64
+        ensures { result ≡ input_faults self.now }
+    {
+        self.faults
+    }
 }
 
 impl<R: Input> Source for RealSource<R> {
@@ -103,14 +126,27 @@ impl<R: Input> Source for RealSource<R> {
 pub struct RealSink<R> {
     rt: R,
     faults: u64,
+    refusals: RefusalCount,
 }
 
 impl<R: Print> RealSink<R> {
     /// The standard output of a runtime.
     pub fn new(rt: R) -> Self
-        ensures { output_faults result ≡ 0 }
+        ensures faults { output_faults result ≡ 0 }
+        ensures refusals { output_refusals result ≡ no_refusals }
     {
-        RealSink { rt, faults: 0 }
+        RealSink {
+            rt,
+            faults: 0,
+            refusals: RefusalCount::new(),
+        }
+    }
+
+    /// How many writes failed.
+    pub fn faults(&self) -> u64
+        ensures { result ≡ output_faults self.now }
+    {
+        self.faults
     }
 }
 
@@ -119,11 +155,19 @@ impl<R: Print> Sink for RealSink<R> {
 
     ghost faults = { λ s. s.faults };
 
+    ghost refusals = { λ s. output_refusals s };
+
     fn write(&mut self, bytes: &[u8]) -> Result<usize, SinkFault> {
         match write_some(&mut io::writer(&self.rt), bytes) {
-            Ok(count) => Ok(count),
-            Err(e) if e.kind() == ErrorKind::OutOfMemory => Err(SinkFault::NoMemory),
-            Err(_) => {
+            Ok(count) => {
+                self.refusals.take();
+                Ok(count)
+            }
+            Err(e) => {
+                self.refusals.refuse();
+                if e.kind() == ErrorKind::OutOfMemory {
+                    return Err(SinkFault::NoMemory);
+                }
                 self.faults = self.faults.saturating_add(1);
                 Err(SinkFault::Failed)
             }
