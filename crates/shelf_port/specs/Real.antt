@@ -7,11 +7,11 @@ use Rattle.shelf_port.specs.declared.real.RealSource.{RealSource}
 use Rattle.shelf_port.specs.declared.real.RealSink.{RealSink}
 
 -- of the reads of files
-abbrev pub file_read_faults : {R : Type 0} → RealShelf R → ℕ
+abbrev pub file_read_faults : {R F : Type 0} → RealShelf R F → ℕ
 file_read_faults shelf = shelf.read_faults
 
 -- of the writes of files
-abbrev pub file_write_faults : {R : Type 0} → RealShelf R → ℕ
+abbrev pub file_write_faults : {R F : Type 0} → RealShelf R F → ℕ
 file_write_faults shelf = shelf.write_faults
 
 -- of the reads of the input

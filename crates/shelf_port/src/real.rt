@@ -16,14 +16,27 @@ use std::{fs, io};
 const TRIES: usize = 64;
 
 /// The host's files, by path. It tells nothing of them.
+///
+/// The file that is read stays open, and so does the one that is written. So a pipe, which can't be
+/// read from its front again, is read once in order.
 #[derive(Drop)]
-pub struct RealShelf<R> {
+pub struct RealShelf<R, F> {
     rt: R,
+    reading: Option<KeptFile<F>>,
+    writing: Option<KeptFile<F>>,
     read_faults: u64,
     write_faults: u64,
 }
 
-impl<R: Files> RealShelf<R> {
+/// A file that stays open, and the place in it behind what was read.
+#[derive(Drop)]
+struct KeptFile<F> {
+    name: String,
+    file: F,
+    at: u64,
+}
+
+impl<R: Files + AllocGlobal> RealShelf<R, R::File> {
     /// The files that a runtime reaches.
     pub fn new(rt: R) -> Self
         ensures reads { file_read_faults result ≡ 0 }
@@ -31,6 +44,8 @@ impl<R: Files> RealShelf<R> {
     {
         RealShelf {
             rt,
+            reading: None,
+            writing: None,
             read_faults: 0,
             write_faults: 0,
         }
@@ -51,7 +66,7 @@ impl<R: Files> RealShelf<R> {
     }
 }
 
-impl<R: Files> Shelf for RealShelf<R> {
+impl<R: Files + AllocGlobal> Shelf for RealShelf<R, R::File> {
     ghost files = { λ _. None };
 
     ghost read_faults = { λ s _. s.read_faults };
@@ -59,22 +74,34 @@ impl<R: Files> Shelf for RealShelf<R> {
     ghost write_faults = { λ s _. s.write_faults };
 
     fn read_at(&mut self, name: &str, at: u64, into: &mut [u8]) -> Result<usize, ShelfFault> {
-        match read_file(&self.rt, name, at, into) {
-            Ok(count) => Ok(count),
+        let kept = self.reading.take();
+        match read_on(&self.rt, kept, name, at, into) {
+            Ok((kept, count)) => {
+                self.reading = Some(kept);
+                Ok(count)
+            }
             Err(e) => Err(shelf_fault(&e, &mut self.read_faults)),
         }
     }
 
     fn create(&mut self, name: &str) -> Result<(), ShelfFault> {
-        match fs::create(&self.rt, name) {
-            Ok(_) => Ok(()),
+        self.writing = None;
+        match create_file(&self.rt, name) {
+            Ok(kept) => {
+                self.writing = Some(kept);
+                Ok(())
+            }
             Err(e) => Err(shelf_fault(&e, &mut self.write_faults)),
         }
     }
 
     fn append(&mut self, name: &str, bytes: &[u8]) -> Result<usize, ShelfFault> {
-        match append_file(&self.rt, name, bytes) {
-            Ok(count) => Ok(count),
+        let kept = self.writing.take();
+        match write_on(&self.rt, kept, name, bytes) {
+            Ok((kept, count)) => {
+                self.writing = Some(kept);
+                Ok(count)
+            }
             Err(e) => Err(shelf_fault(&e, &mut self.write_faults)),
         }
     }
@@ -187,20 +214,68 @@ fn shelf_fault(error: &io::Error, faults: &mut u64) -> ShelfFault
     ShelfFault::Failed
 }
 
-fn read_file<R: Files>(rt: &R, name: &str, at: u64, into: &mut [u8]) -> io::Result<usize>
-    ensures { IfOk result (λ n. n ≤ length into.new) }
+// Reads on in the file that is kept, where it stands at this place, else in the file opened anew. An
+// error lets the file go.
+fn read_on<R: Files + AllocGlobal>(
+    rt: &R,
+    kept: Option<KeptFile<R::File>>,
+    name: &str,
+    at: u64,
+    into: &mut [u8],
+) -> io::Result<(KeptFile<R::File>, usize)>
+    ensures { IfOk result (λ read. read.1 ≤ length into.new) }
 {
-    let mut file = fs::open(rt, name)?;
-    file.seek(SeekFrom::Start(at))?;
-    read_some(&mut file, into)
+    let mut kept = match kept.filter(|kept| kept.at == at && kept.name.as_str() == name) {
+        Some(kept) => kept,
+        None => open_at(rt, name, at)?,
+    };
+    let count = read_some(&mut kept.file, into)?;
+    kept.at = at.saturating_add(count as u64);
+    Ok((kept, count))
 }
 
-fn append_file<R: Files>(rt: &R, name: &str, bytes: &[u8]) -> io::Result<usize>
-    ensures bound { IfOk result (λ n. n ≤ length bytes.now) }
-    ensures progress { IfOk result (λ n. 0 < length bytes.now → 0 < n) }
+// Opens the named file at a place. A pipe can be opened at its front alone.
+fn open_at<R: Files + AllocGlobal>(rt: &R, name: &str, at: u64) -> io::Result<KeptFile<R::File>> {
+    let name = String::from_str(rt.alloc(), name)?;
+    let mut file = fs::open(rt, name.as_str())?;
+    if at > 0 {
+        file.seek(SeekFrom::Start(at))?;
+    }
+    Ok(KeptFile { name, file, at })
+}
+
+fn create_file<R: Files + AllocGlobal>(rt: &R, name: &str) -> io::Result<KeptFile<R::File>> {
+    let name = String::from_str(rt.alloc(), name)?;
+    let file = fs::create(rt, name.as_str())?;
+    Ok(KeptFile { name, file, at: 0 })
+}
+
+// Writes on in the file that is kept, where it has this name, else at the end of the named file. An
+// error lets the file go.
+fn write_on<R: Files + AllocGlobal>(
+    rt: &R,
+    kept: Option<KeptFile<R::File>>,
+    name: &str,
+    bytes: &[u8],
+) -> io::Result<(KeptFile<R::File>, usize)>
+    ensures bound { IfOk result (λ written. written.1 ≤ length bytes.now) }
+    ensures progress { IfOk result (λ written. 0 < length bytes.now → 0 < written.1) }
 {
-    let mut file = OpenOptions::new().append(true).create(true).open(rt, name)?;
-    write_some(&mut file, bytes)
+    let mut kept = match kept.filter(|kept| kept.name.as_str() == name) {
+        Some(kept) => kept,
+        None => open_end(rt, name)?,
+    };
+    let count = write_some(&mut kept.file, bytes)?;
+    Ok((kept, count))
+}
+
+fn open_end<R: Files + AllocGlobal>(rt: &R, name: &str) -> io::Result<KeptFile<R::File>> {
+    let name = String::from_str(rt.alloc(), name)?;
+    let file = OpenOptions::new()
+        .append(true)
+        .create(true)
+        .open(rt, name.as_str())?;
+    Ok(KeptFile { name, file, at: 0 })
 }
 
 // One read that no signal interrupted.
