@@ -1,13 +1,13 @@
 -- Files and bytes that are told or not, after one call and another.
-use Rattle.std.proofs.Common.{◌≡◌, ℕ, ◌+◌, ◌-◌, List, [], ◌++◌, length, take, drop, Bool, true, false, cond, refl, ap, sym, ◌∙◌, subst, append_assoc, append-nil, inl, inr, arith}
+use Rattle.std.proofs.Common.{◌≡◌, ℕ, ◌+◌, ◌-◌, List, [], ◌++◌, length, take, drop, Bool, true, false, cond, refl, ap, sym, ◌∙◌, append_assoc, append-nil, inl, inr, arith}
 use Rattle.std.proofs.lemmas.List.{take_rest, take-append-drop, drop-drop}
 use Rattle.std.proofs.lemmas.Cmp.{nat_list_cmp_total, eq_by_cmp_equiv}
-use Rattle.std.specs.Prelude.{Option, None, Some, unwrap_or, IsTrue}
+use Rattle.std.specs.Prelude.{Option, None, Some, unwrap_or}
 use Rattle.std.specs.Ordering.{nat_cmp, eq_by_cmp}
 use Rattle.std.specs.Cmp.Lexicographic.{slice_cmp}
 use Rattle.std.specs.FinMap.{get, insert, get-insert, same_map, slice_cmp-IsAntisymmetric, nat_cmp-IsAntisymmetric}
-use Rattle.shelf_port.specs.Files.{Files, Reads, with_file, with_added, bytes_of, LeavesPrefix, AddsPrefix, one_more}
-use Rattle.shelf_port.specs.Streams.{with_front, with_back, Refusals, refused, RefusedLast}
+use Rattle.shelf_port.specs.Files.{Files, Reads, with_file, with_added, bytes_of, LeavesPrefix, AddsPrefix}
+use Rattle.shelf_port.specs.Streams.{with_front, with_back}
 use Rattle.shelf_port.proofs.Lists.{take-add}
 
 pub with_back-nil : (told : Option (List ℕ)) → told ≡ with_back told []
@@ -106,8 +106,3 @@ given_further bytes file old new at n same read =
     (sym (take-append-drop n (drop at file))
     ∙ ap (λ front. front ++ drop n (drop at file)) (ap (λ l. take n (drop at l)) (sym same) ∙ sym read.front)
     ∙ ap (λ rest. take n new ++ rest) (drop-drop n at file))
-
--- a call that was refused behind calls that were taken is the only one that was, and the last
-pub refused_last : (old mid new : Refusals) → mid.count ≡ old.count → new ≡ refused mid → RefusedLast old new
-refused_last old mid new same e =
-    record { once = ap (λ r. r.count) e ∙ ap one_more same; last = subst (λ r. IsTrue r.last) (sym e) refl }

@@ -48,6 +48,10 @@ AddsPrefix old new name bytes = (new ≡ old) ⊎ ((k : ℕ) × (k ≤ length by
 abbrev pub one_more : ℕ → ℕ
 one_more n = min (n + 1) (2 ^ 64 - 1)
 
+-- one call counts one more fault where it failed, and none otherwise
+abbrev pub CountsOnly : Type 0 → ℕ → ℕ → Type 0
+CountsOnly failed before after = (failed → after ≡ one_more before) × (failed ⊎ (after ≡ before))
+
 -- a count of faults rose, or stands at the last value of its counter
 abbrev pub Rose : ℕ → ℕ → Type 0
 Rose before after = (before < after) ⊎ (2 ^ 64 - 1 ≤ after)

@@ -6,4 +6,5 @@ pub mod Memory
 pub mod Plan
 pub mod Ports
 pub mod Real
+pub mod RefusalCount
 pub mod Streams

@@ -1,6 +1,7 @@
 -- What an input and an output in memory tell, and how their calls go.
 use Rattle.std.specs.Prelude.{ℕ, List, drop}
 use Rattle.shelf_port.specs.Streams.{Refusals}
+use Rattle.shelf_port.specs.RefusalCount.{counted}
 use Rattle.shelf_port.specs.declared.plan.CallPlan.{CallPlan}
 use Rattle.shelf_port.specs.declared.mem_streams.MemSource.{MemSource}
 use Rattle.shelf_port.specs.declared.mem_streams.MemSink.{MemSink}
@@ -29,6 +30,6 @@ output_plan sink = sink.plan
 abbrev pub write_faults_of : MemSink → ℕ
 write_faults_of sink = sink.faults
 
--- how many writes were refused, and whether the last one was
+-- which writes were refused
 abbrev pub refusals_of : MemSink → Refusals
-refusals_of sink = record { count = sink.refused; last = sink.is_refused }
+refusals_of sink = counted sink.refusals

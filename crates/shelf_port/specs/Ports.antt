@@ -14,7 +14,7 @@ pub record SourceState : Type 0 where
   pub left : Option (List ℕ)
   pub faults : ℕ
 
--- what was written to an output, where it tells that, how many writes failed, and which were refused
+-- what was written to an output, where it tells that, how many writes failed, and how many were refused and whether the last one was
 pub record SinkState : Type 0 where
   pub written : Option (List ℕ)
   pub faults : ℕ

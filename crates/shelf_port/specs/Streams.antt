@@ -1,4 +1,4 @@
--- What a source has left and what a sink has taken, where they tell it, and which calls of a sink were refused.
+-- What a source has left and what a sink has taken, where they tell it, and how many calls of a sink were refused.
 use Rattle.std.specs.Prelude.{◌≡◌, ℕ, Bool, true, false, IsTrue, List, ◌++◌, Option}
 use Rattle.std.specs.Option.{option_map}
 use Rattle.shelf_port.specs.Files.{one_more}
@@ -15,6 +15,10 @@ with_back told bytes = option_map (λ front. front ++ bytes) told
 pub record Refusals : Type 0 where
   pub count : ℕ
   pub last : Bool
+
+-- before the first call
+abbrev pub no_refusals : Refusals
+no_refusals = record { count = 0; last = false }
 
 -- once one more call was taken
 abbrev pub taken : Refusals → Refusals

@@ -13,6 +13,7 @@ mod mem_streams;
 mod plan;
 mod ports;
 mod real;
+mod refusal_count;
 mod whole;
 
 pub use fault::{PutFault, ReadWhole, ShelfFault, SinkFault, SourceFault};

@@ -3,7 +3,7 @@ ghost use Rattle.std.specs.Prelude.{◌≡◌, ◌⊎◌, ℕ, ◌+◌, ◌<◌,
 ghost use Rattle.std.specs.Option.{option_copied};
 ghost use Rattle.std.specs.List.{position_from};
 ghost use Rattle.std.specs.FinMap.{get, insert};
-ghost use Rattle.shelf_port.specs.Files.{Files, bytes_of, with_file, with_added, HasFile, Reads, Rose, NeverFalls};
+ghost use Rattle.shelf_port.specs.Files.{Files, bytes_of, with_file, with_added, HasFile, Reads, Rose, NeverFalls, CountsOnly};
 ghost use Rattle.shelf_port.specs.Memory.{files_of_list, is_named};
 ghost use Rattle.shelf_port.specs.Plan.{NextFails, after_call};
 
@@ -140,6 +140,11 @@ impl Shelf for MemShelf {
         ensures reads { NeverFalls (λ _. read_faults_of self.old) (λ _. read_faults_of self.new) }
         ensures writes { NeverFalls (λ _. write_faults_of self.old) (λ _. write_faults_of self.new) }
 
+        // A fault is counted once, and no call counts another.
+        ensures counts_only { CountsOnly (IsErrOf result ShelfFault.Failed)
+            (read_faults_of self.old) (read_faults_of self.new) }
+        ensures same_writes { write_faults_of self.new ≡ write_faults_of self.old }
+
         // It fails exactly where it is one of the calls that are to fail, or the file isn't there.
         ensures planned { NextFails (plan_of self.old) → IsErrOf result ShelfFault.Failed }
         ensures missing { get (files_of self.old) name.now ≡ None →
@@ -173,6 +178,11 @@ impl Shelf for MemShelf {
         ensures reads { NeverFalls (λ _. read_faults_of self.old) (λ _. read_faults_of self.new) }
         ensures writes { NeverFalls (λ _. write_faults_of self.old) (λ _. write_faults_of self.new) }
 
+        // A fault is counted once, and no call counts another.
+        ensures counts_only { CountsOnly (IsErrOf result ShelfFault.Failed)
+            (write_faults_of self.old) (write_faults_of self.new) }
+        ensures same_reads { read_faults_of self.new ≡ read_faults_of self.old }
+
         // It fails exactly where it is one of the calls that are to fail.
         ensures planned { IsErrOf result ShelfFault.Failed ↔ NextFails (plan_of self.old) }
         ensures plan { plan_of self.new ≡ after_call (plan_of self.old) }
@@ -195,6 +205,11 @@ impl Shelf for MemShelf {
             Rose (write_faults_of self.old) (write_faults_of self.new) }
         ensures reads { NeverFalls (λ _. read_faults_of self.old) (λ _. read_faults_of self.new) }
         ensures writes { NeverFalls (λ _. write_faults_of self.old) (λ _. write_faults_of self.new) }
+
+        // A fault is counted once, and no call counts another.
+        ensures counts_only { CountsOnly (IsErrOf result ShelfFault.Failed)
+            (write_faults_of self.old) (write_faults_of self.new) }
+        ensures same_reads { read_faults_of self.new ≡ read_faults_of self.old }
 
         // It fails exactly where it is one of the calls that are to fail.
         ensures planned { IsErrOf result ShelfFault.Failed ↔ NextFails (plan_of self.old) }

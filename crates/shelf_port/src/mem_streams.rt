@@ -1,12 +1,13 @@
 // An input and an output in memory.
-ghost use Rattle.std.specs.Prelude.{◌≡◌, ◌<◌, ◌≤◌, ◌↔◌, [], length, take, drop, Some, true, IfOk, OnOk, OnErr, IsErrOf};
-ghost use Rattle.shelf_port.specs.Files.{Rose, one_more};
+ghost use Rattle.std.specs.Prelude.{◌≡◌, ◌<◌, ◌≤◌, ◌↔◌, [], length, take, drop, Some, IfOk, OnOk, OnErr, IsErrOf};
+ghost use Rattle.shelf_port.specs.Files.{Rose, CountsOnly};
 ghost use Rattle.shelf_port.specs.Plan.{NextFails, after_call};
-ghost use Rattle.shelf_port.specs.Streams.{with_front, with_back, taken, refused};
+ghost use Rattle.shelf_port.specs.Streams.{with_front, with_back, no_refusals, taken, refused};
 
 use crate::fault::{SinkFault, SourceFault};
 use crate::plan::{CallPlan, copy_from};
 use crate::ports::{Sink, Source};
+use crate::refusal_count::RefusalCount;
 use std::alloc::Global;
 
 /// An input in memory. It tells what is left. Of its calls those with given numbers fail.
@@ -74,6 +75,10 @@ impl Source for MemSource {
             Rose (read_faults_of self.old) (read_faults_of self.new) }
         ensures counts { read_faults_of self.old ≤ read_faults_of self.new }
 
+        // A fault is counted once, and no call counts another.
+        ensures counts_only { CountsOnly (IsErrOf result SourceFault.Failed)
+            (read_faults_of self.old) (read_faults_of self.new) }
+
         // It fails exactly where it is one of the calls that are to fail.
         ensures planned { IsErrOf result SourceFault.Failed ↔ NextFails (input_plan self.old) }
         ensures plan { input_plan self.new ≡ after_call (input_plan self.old) }
@@ -95,12 +100,11 @@ pub struct MemSink {
     written: Vec<u8>,
     plan: CallPlan,
     faults: u64,
-    refused: u64,
-    is_refused: bool,
+    refusals: RefusalCount,
 }
 
 impl MemSink {
-    ghost use Rattle.shelf_port.specs.MemStreams.{written_to, output_plan, write_faults_of};
+    ghost use Rattle.shelf_port.specs.MemStreams.{written_to, output_plan, write_faults_of, refusals_of};
 
     /// An empty output. Its calls with the numbers `fails`, counted from 1, answer `Failed`.
     pub fn new(alloc: Global, fails: Vec<u64>) -> Self
@@ -108,13 +112,13 @@ impl MemSink {
         ensures failing { (output_plan result).failing ≡ fails }
         ensures made { (output_plan result).made ≡ 0 }
         ensures faults { write_faults_of result ≡ 0 }
+        ensures refusals { refusals_of result ≡ no_refusals }
     {
         MemSink {
             written: Vec::new(alloc),
             plan: CallPlan::new(fails),
             faults: 0,
-            refused: 0,
-            is_refused: false,
+            refusals: RefusalCount::new(),
         }
     }
 
@@ -126,22 +130,14 @@ impl MemSink {
         ensures failing { (output_plan result).failing ≡ (output_plan self).failing }
         ensures made { (output_plan result).made ≡ (output_plan self).made }
         ensures faults { write_faults_of result ≡ write_faults_of self }
+        ensures refusals { refusals_of result ≡ refusals_of self }
     {
         MemSink {
             written: self.written,
             plan: self.plan.in_pieces(width),
             faults: self.faults,
-            refused: self.refused,
-            is_refused: self.is_refused,
+            refusals: self.refusals,
         }
-    }
-
-    // Counts a refused call.
-    fn refuse(&mut self)
-        ensures { self.new ≡ record self.old { refused = one_more self.old.refused; is_refused = true } }
-    {
-        self.refused = self.refused.saturating_add(1);
-        self.is_refused = true;
     }
 
     /// All that was written.
@@ -168,12 +164,16 @@ impl Sink for MemSink {
         ensures ok { IfOk result (λ n. Some (written_to self.new) ≡
             with_back (Some (written_to self.old)) (take n bytes.now)) }
         ensures err { OnErr result (Some (written_to self.new) ≡ Some (written_to self.old)) }
-        ensures taken { OnOk result (refusals_of self.new ≡ taken (refusals_of self.old)) }
-        ensures refused { OnErr result (refusals_of self.new ≡ refused (refusals_of self.old)) }
 
         ensures failed { IsErrOf result SinkFault.Failed →
             Rose (write_faults_of self.old) (write_faults_of self.new) }
         ensures counts { write_faults_of self.old ≤ write_faults_of self.new }
+        ensures taken { OnOk result (refusals_of self.new ≡ taken (refusals_of self.old)) }
+        ensures refused { OnErr result (refusals_of self.new ≡ refused (refusals_of self.old)) }
+
+        // A fault is counted once, and no call counts another.
+        ensures counts_only { CountsOnly (IsErrOf result SinkFault.Failed)
+            (write_faults_of self.old) (write_faults_of self.new) }
 
         // It fails exactly where it is one of the calls that are to fail.
         ensures planned { IsErrOf result SinkFault.Failed ↔ NextFails (output_plan self.old) }
@@ -182,15 +182,19 @@ impl Sink for MemSink {
     {
         if self.plan.next_fails() {
             self.faults = self.faults.saturating_add(1);
-            self.refuse();
+            self.refusals.refuse();
             return Err(SinkFault::Failed);
         }
         let count = self.plan.part_of(bytes.len());
-        if self.written.extend_from_slice(&bytes[..count]).is_err() {
-            self.refuse();
-            return Err(SinkFault::NoMemory);
+        match self.written.extend_from_slice(&bytes[..count]) {
+            Ok(()) => {
+                self.refusals.take();
+                Ok(count)
+            }
+            Err(e) => {
+                self.refusals.refuse();
+                Err(SinkFault::from(e))
+            }
         }
-        self.is_refused = false;
-        Ok(count)
     }
 }

@@ -100,10 +100,10 @@ pub trait Sink {
         ensures ok { IfOk result (λ n.
             written self.new ≡ with_back (written self.old) (take n bytes.now)) }
         ensures err { OnErr result (written self.new ≡ written self.old) }
-        ensures taken { OnOk result (refusals self.new ≡ taken (refusals self.old)) }
-        ensures refused { OnErr result (refusals self.new ≡ refused (refusals self.old)) }
 
         ensures failed { IsErrOf result SinkFault.Failed →
             Rose (faults self.old) (faults self.new) }
-        ensures counts { faults self.old ≤ faults self.new };
+        ensures counts { faults self.old ≤ faults self.new }
+        ensures taken { OnOk result (refusals self.new ≡ taken (refusals self.old)) }
+        ensures refused { OnErr result (refusals self.new ≡ refused (refusals self.old)) };
 }

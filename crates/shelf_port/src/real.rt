@@ -2,10 +2,12 @@
 // hold, so nothing is proved of it. Each fault is counted.
 ghost use Rattle.std.specs.Prelude.{◌≡◌, ◌<◌, ◌≤◌, length, None, IfOk};
 ghost use Rattle.shelf_port.specs.Files.{Rose};
-ghost use Rattle.shelf_port.specs.Real.{file_read_faults, file_write_faults, input_faults, output_faults};
+ghost use Rattle.shelf_port.specs.Streams.{no_refusals};
+ghost use Rattle.shelf_port.specs.Real.{file_read_faults, file_write_faults, input_faults, output_faults, output_refusals};
 
 use crate::fault::{ShelfFault, SinkFault, SourceFault};
 use crate::ports::{Shelf, Sink, Source};
+use crate::refusal_count::RefusalCount;
 use std::fs::{Files, OpenOptions};
 use std::io::{ErrorKind, Read, Seek, SeekFrom, Write};
 use std::{fs, io};
@@ -14,14 +16,27 @@ use std::{fs, io};
 const TRIES: usize = 64;
 
 /// The host's files, by path. It tells nothing of them.
+///
+/// The file that is read stays open, and so does the one that is written. So a pipe, which can't be
+/// read from its front again, is read once in order.
 #[derive(Drop)]
-pub struct RealShelf<R> {
+pub struct RealShelf<R, F> {
     rt: R,
+    reading: Option<KeptFile<F>>,
+    writing: Option<KeptFile<F>>,
     read_faults: u64,
     write_faults: u64,
 }
 
-impl<R: Files> RealShelf<R> {
+/// A file that stays open, and the place in it behind what was read.
+#[derive(Drop)]
+struct KeptFile<F> {
+    name: String,
+    file: F,
+    at: u64,
+}
+
+impl<R: Files + AllocGlobal> RealShelf<R, R::File> {
     /// The files that a runtime reaches.
     pub fn new(rt: R) -> Self
         ensures reads { file_read_faults result ≡ 0 }
@@ -29,13 +44,29 @@ impl<R: Files> RealShelf<R> {
     {
         RealShelf {
             rt,
+            reading: None,
+            writing: None,
             read_faults: 0,
             write_faults: 0,
         }
     }
+
+    /// How many reads failed.
+    pub fn read_faults(&self) -> u64
+        ensures { result ≡ file_read_faults self.now }
+    {
+        self.read_faults
+    }
+
+    /// How many writes failed.
+    pub fn write_faults(&self) -> u64
+        ensures { result ≡ file_write_faults self.now }
+    {
+        self.write_faults
+    }
 }
 
-impl<R: Files> Shelf for RealShelf<R> {
+impl<R: Files + AllocGlobal> Shelf for RealShelf<R, R::File> {
     ghost files = { λ _. None };
 
     ghost read_faults = { λ s _. s.read_faults };
@@ -43,22 +74,34 @@ impl<R: Files> Shelf for RealShelf<R> {
     ghost write_faults = { λ s _. s.write_faults };
 
     fn read_at(&mut self, name: &str, at: u64, into: &mut [u8]) -> Result<usize, ShelfFault> {
-        match read_file(&self.rt, name, at, into) {
-            Ok(count) => Ok(count),
+        let kept = self.reading.take();
+        match read_on(&self.rt, kept, name, at, into) {
+            Ok((kept, count)) => {
+                self.reading = Some(kept);
+                Ok(count)
+            }
             Err(e) => Err(shelf_fault(&e, &mut self.read_faults)),
         }
     }
 
     fn create(&mut self, name: &str) -> Result<(), ShelfFault> {
-        match fs::create(&self.rt, name) {
-            Ok(_) => Ok(()),
+        self.writing = None;
+        match create_file(&self.rt, name) {
+            Ok(kept) => {
+                self.writing = Some(kept);
+                Ok(())
+            }
             Err(e) => Err(shelf_fault(&e, &mut self.write_faults)),
         }
     }
 
     fn append(&mut self, name: &str, bytes: &[u8]) -> Result<usize, ShelfFault> {
-        match append_file(&self.rt, name, bytes) {
-            Ok(count) => Ok(count),
+        let kept = self.writing.take();
+        match write_on(&self.rt, kept, name, bytes) {
+            Ok((kept, count)) => {
+                self.writing = Some(kept);
+                Ok(count)
+            }
             Err(e) => Err(shelf_fault(&e, &mut self.write_faults)),
         }
     }
@@ -77,6 +120,13 @@ impl<R: Input> RealSource<R> {
         ensures { input_faults result ≡ 0 }
     {
         RealSource { rt, faults: 0 }
+    }
+
+    /// How many reads failed.
+    pub fn faults(&self) -> u64
+        ensures { result ≡ input_faults self.now }
+    {
+        self.faults
     }
 }
 
@@ -103,21 +153,27 @@ impl<R: Input> Source for RealSource<R> {
 pub struct RealSink<R> {
     rt: R,
     faults: u64,
-    refused: u64,
-    is_refused: bool,
+    refusals: RefusalCount,
 }
 
 impl<R: Print> RealSink<R> {
     /// The standard output of a runtime.
     pub fn new(rt: R) -> Self
-        ensures { output_faults result ≡ 0 }
+        ensures faults { output_faults result ≡ 0 }
+        ensures refusals { output_refusals result ≡ no_refusals }
     {
         RealSink {
             rt,
             faults: 0,
-            refused: 0,
-            is_refused: false,
+            refusals: RefusalCount::new(),
         }
+    }
+
+    /// How many writes failed.
+    pub fn faults(&self) -> u64
+        ensures { result ≡ output_faults self.now }
+    {
+        self.faults
     }
 }
 
@@ -126,17 +182,16 @@ impl<R: Print> Sink for RealSink<R> {
 
     ghost faults = { λ s. s.faults };
 
-    ghost refusals = { λ s. record { count = s.refused; last = s.is_refused } };
+    ghost refusals = { λ s. output_refusals s };
 
     fn write(&mut self, bytes: &[u8]) -> Result<usize, SinkFault> {
         match write_some(&mut io::writer(&self.rt), bytes) {
             Ok(count) => {
-                self.is_refused = false;
+                self.refusals.take();
                 Ok(count)
             }
             Err(e) => {
-                self.is_refused = true;
-                self.refused = self.refused.saturating_add(1);
+                self.refusals.refuse();
                 if e.kind() == ErrorKind::OutOfMemory {
                     return Err(SinkFault::NoMemory);
                 }
@@ -159,20 +214,68 @@ fn shelf_fault(error: &io::Error, faults: &mut u64) -> ShelfFault
     ShelfFault::Failed
 }
 
-fn read_file<R: Files>(rt: &R, name: &str, at: u64, into: &mut [u8]) -> io::Result<usize>
-    ensures { IfOk result (λ n. n ≤ length into.new) }
+// Reads on in the file that is kept, where it stands at this place, else in the file opened anew. An
+// error lets the file go.
+fn read_on<R: Files + AllocGlobal>(
+    rt: &R,
+    kept: Option<KeptFile<R::File>>,
+    name: &str,
+    at: u64,
+    into: &mut [u8],
+) -> io::Result<(KeptFile<R::File>, usize)>
+    ensures { IfOk result (λ read. read.1 ≤ length into.new) }
 {
-    let mut file = fs::open(rt, name)?;
-    file.seek(SeekFrom::Start(at))?;
-    read_some(&mut file, into)
+    let mut kept = match kept.filter(|kept| kept.at == at && kept.name.as_str() == name) {
+        Some(kept) => kept,
+        None => open_at(rt, name, at)?,
+    };
+    let count = read_some(&mut kept.file, into)?;
+    kept.at = at.saturating_add(count as u64);
+    Ok((kept, count))
 }
 
-fn append_file<R: Files>(rt: &R, name: &str, bytes: &[u8]) -> io::Result<usize>
-    ensures bound { IfOk result (λ n. n ≤ length bytes.now) }
-    ensures progress { IfOk result (λ n. 0 < length bytes.now → 0 < n) }
+// Opens the named file at a place. A pipe can be opened at its front alone.
+fn open_at<R: Files + AllocGlobal>(rt: &R, name: &str, at: u64) -> io::Result<KeptFile<R::File>> {
+    let name = String::from_str(rt.alloc(), name)?;
+    let mut file = fs::open(rt, name.as_str())?;
+    if at > 0 {
+        file.seek(SeekFrom::Start(at))?;
+    }
+    Ok(KeptFile { name, file, at })
+}
+
+fn create_file<R: Files + AllocGlobal>(rt: &R, name: &str) -> io::Result<KeptFile<R::File>> {
+    let name = String::from_str(rt.alloc(), name)?;
+    let file = fs::create(rt, name.as_str())?;
+    Ok(KeptFile { name, file, at: 0 })
+}
+
+// Writes on in the file that is kept, where it has this name, else at the end of the named file. An
+// error lets the file go.
+fn write_on<R: Files + AllocGlobal>(
+    rt: &R,
+    kept: Option<KeptFile<R::File>>,
+    name: &str,
+    bytes: &[u8],
+) -> io::Result<(KeptFile<R::File>, usize)>
+    ensures bound { IfOk result (λ written. written.1 ≤ length bytes.now) }
+    ensures progress { IfOk result (λ written. 0 < length bytes.now → 0 < written.1) }
 {
-    let mut file = OpenOptions::new().append(true).create(true).open(rt, name)?;
-    write_some(&mut file, bytes)
+    let mut kept = match kept.filter(|kept| kept.name.as_str() == name) {
+        Some(kept) => kept,
+        None => open_end(rt, name)?,
+    };
+    let count = write_some(&mut kept.file, bytes)?;
+    Ok((kept, count))
+}
+
+fn open_end<R: Files + AllocGlobal>(rt: &R, name: &str) -> io::Result<KeptFile<R::File>> {
+    let name = String::from_str(rt.alloc(), name)?;
+    let file = OpenOptions::new()
+        .append(true)
+        .create(true)
+        .open(rt, name.as_str())?;
+    Ok(KeptFile { name, file, at: 0 })
 }
 
 // One read that no signal interrupted.

@@ -130,20 +130,30 @@ fn reaches_the_host(rt: HostRuntime) -> Result<(), Fail> {
     let mut shelf = RealShelf::new(&rt);
     put_whole(&mut shelf, name, TEXT.as_bytes())?;
     put_whole(&mut shelf, name, b"new")?;
-    let read = read_whole(alloc, &mut shelf, name, 3);
+    append_whole(&mut shelf, name, b"er")?;
+    let read = read_whole(alloc, &mut shelf, name, 5);
+    let again = read_whole(alloc, &mut shelf, name, 5);
     fs::remove_file(&rt, name)?;
-    assert_eq!(rt; read?.as_slice(), b"new".as_slice());
+    assert_eq!(rt; read?.as_slice(), b"newer".as_slice());
+    assert_eq!(rt; again?.as_slice(), b"newer".as_slice());
+    assert_eq!(rt; (shelf.read_faults(), shelf.write_faults()), (0, 0));
+
     assert_eq!(rt;
-        read_whole(alloc, &mut shelf, name, 3).err(),
+        read_whole(alloc, &mut shelf, name, 5).err(),
         Some(ReadWhole::Failed)
     );
     assert_eq!(rt;
-        read_whole(alloc, &mut shelf, ".", 3).err(),
+        read_whole(alloc, &mut shelf, ".", 5).err(),
         Some(ReadWhole::Failed)
     );
     assert_eq!(rt; put_whole(&mut shelf, ".", b"new"), Err(PutFault::Failed));
+    assert_eq!(rt; (shelf.read_faults(), shelf.write_faults()), (2, 1));
 
-    write_whole(&mut RealSink::new(&rt), b"written\n")?;
-    assert_eq!(rt; RealSource::new(&rt).read(&mut []), Ok(0));
+    let mut sink = RealSink::new(&rt);
+    write_whole(&mut sink, b"written\n")?;
+    assert_eq!(rt; sink.faults(), 0);
+    let mut source = RealSource::new(&rt);
+    assert_eq!(rt; source.read(&mut []), Ok(0));
+    assert_eq!(rt; source.faults(), 0);
     Ok(())
 }

@@ -2,7 +2,7 @@
 // goes on over short reads and short writes.
 ghost use Rattle.std.specs.Prelude.{◌≡◌, ℕ, ◌<◌, ◌≤◌, length, take, IfOk, OnOk, OnErr, IsErrOf, vec_len};
 ghost use Rattle.shelf_port.specs.Files.{with_file, with_added, HasFile, LeavesPrefix, AddsPrefix, Rose, NeverFalls};
-ghost use Rattle.shelf_port.specs.Streams.{with_back, RefusedLast};
+ghost use Rattle.shelf_port.specs.Streams.{with_back, Refusals, RefusedLast};
 
 use crate::fault::{PutFault, ReadWhole, SinkFault};
 use crate::ports::{Shelf, Sink};
@@ -90,17 +90,19 @@ pub fn append_whole<H: Shelf>(shelf: &mut H, name: &str, bytes: &[u8]) -> Result
 /// Writes all these bytes to an output.
 ///
 /// `Failed` comes where a write failed, `NoMemory` where there was none. After either a prefix of the
-/// bytes was written.
+/// bytes was written, but never all of them, and nothing was tried behind the call that was refused.
 pub fn write_whole<O: Sink>(sink: &mut O, bytes: &[u8]) -> Result<(), SinkFault>
     ensures ok { OnOk result (O.written sink.new ≡ with_back (O.written sink.old) bytes.now) }
     ensures err { OnErr result
         ((k : ℕ) × (k < length bytes.now)
         × (O.written sink.new ≡ with_back (O.written sink.old) (take k bytes.now))) }
-    ensures taken { OnOk result ((O.refusals sink.new).count ≡ (O.refusals sink.old).count) }
-    ensures refused { OnErr result (RefusedLast (O.refusals sink.old) (O.refusals sink.new)) }
     ensures failed { IsErrOf result SinkFault.Failed →
         Rose (O.faults sink.old) (O.faults sink.new) }
     ensures counts { O.faults sink.old ≤ O.faults sink.new }
+
+    // All calls were taken, or the last one was refused and none behind it was made.
+    ensures taken { OnOk result ((O.refusals sink.new).count ≡ (O.refusals sink.old).count) }
+    ensures refused { OnErr result (RefusedLast (O.refusals sink.old) (O.refusals sink.new)) }
 {
     let mut done = 0;
     while done < bytes.len() {
