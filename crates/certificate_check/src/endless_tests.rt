@@ -49,14 +49,10 @@ fn says(alloc: Global, second: u8, expected: CertFault) -> Result<bool, Fail> {
 }
 
 #[test]
-fn decides_at_the_first_line(rt: HostRuntime) -> Result<(), Fail> {
+fn ends_where_the_file_does_not(rt: HostRuntime) -> Result<(), Fail> {
+    let alloc = rt.alloc();
     let kind = CertKind::BadLine;
-    assert!(rt; says(rt.alloc(), b'\n', CertFault::Text { kind, line: 1 })?);
-    Ok(())
-}
-
-#[test]
-fn stops_in_a_line_without_end(rt: HostRuntime) -> Result<(), Fail> {
-    assert!(rt; says(rt.alloc(), b'x', CertFault::TooLong)?);
+    assert!(rt; says(alloc, b'\n', CertFault::Text { kind, line: 1 })?);
+    assert!(rt; says(alloc, b'x', CertFault::TooLong)?);
     Ok(())
 }

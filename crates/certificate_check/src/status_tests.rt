@@ -33,42 +33,41 @@ fn says(alloc: Global, text: Vec<u8>, expected: Result<Verdict, CertFault>) -> R
     Ok(check(alloc, &inst, &mut shelf, "k") == expected)
 }
 
+// Whether this is what the checker says of the certificate with these lines of statuses and of its plan.
+fn says_with(
+    alloc: Global,
+    must_open: &[u8],
+    plan: &[u8],
+    expected: Result<Verdict, CertFault>,
+) -> Result<bool, Fail> {
+    says(alloc, text_of(alloc, must_open, plan)?, expected)
+}
+
 // Whether a certificate with this line of sites that must be open has this fault in it.
 fn has_fault(alloc: Global, must_open: &[u8], kind: CertKind) -> Result<bool, Fail> {
-    let text = text_of(alloc, must_open, b"open 1 2\nserve 1 1 2")?;
-    says(alloc, text, Err(CertFault::Text { kind, line: 3 }))
+    let expected = Err(CertFault::Text { kind, line: 3 });
+    says_with(alloc, must_open, b"open 1 2\nserve 1 1 2", expected)
 }
 
-#[test]
-fn says_yes_where_a_site_must_be_open(rt: HostRuntime) -> Result<(), Fail> {
-    let alloc = rt.alloc();
-    let text = text_of(alloc, b"must-open 2", b"open 1 2\nserve 1 1 2")?;
-    let yes = Ok(Verdict::Yes(Claim::Optimal(26_000_000)));
-    assert!(rt; says(alloc, text, yes)?);
-    Ok(())
-}
-
-#[test]
-fn compares_the_statuses(rt: HostRuntime) -> Result<(), Fail> {
-    assert!(rt; has_fault(rt.alloc(), b"must-open", CertKind::WrongStatus)?);
-    assert!(rt; has_fault(rt.alloc(), b"must-open 7", CertKind::UnknownId)?);
-    Ok(())
-}
-
-#[test]
-fn judges_the_plan_by_the_statuses(rt: HostRuntime) -> Result<(), Fail> {
-    let alloc = rt.alloc();
-    let why = Why::PlanRefused(PlanFault::StatusBroken);
-    let text = text_of(alloc, b"must-open 2", b"open 1\nserve 1 1 1")?;
-    assert!(rt; says(alloc, text, Ok(Verdict::No { line: 7, why }))?);
-    Ok(())
-}
-
-#[test]
-fn wants_the_second_version(rt: HostRuntime) -> Result<(), Fail> {
-    let alloc = rt.alloc();
+// Whether a text of the first version is no certificate.
+fn wants_the_second_version(alloc: Global) -> Result<bool, Fail> {
     let kind = CertKind::BadLine;
     let text = text_with(alloc, 0, b"")?;
-    assert!(rt; says(alloc, text, Err(CertFault::Text { kind, line: 1 }))?);
+    says(alloc, text, Err(CertFault::Text { kind, line: 1 }))
+}
+
+#[test]
+fn reads_the_second_version(rt: HostRuntime) -> Result<(), Fail> {
+    let alloc = rt.alloc();
+    let yes = Ok(Verdict::Yes(Claim::Optimal(26_000_000)));
+    let no = Ok(Verdict::No {
+        line: 7,
+        why: Why::PlanRefused(PlanFault::StatusBroken),
+    });
+    assert!(rt; says_with(alloc, b"must-open 2", b"open 1 2\nserve 1 1 2", yes)?);
+    assert!(rt; says_with(alloc, b"must-open 2", b"open 1\nserve 1 1 1", no)?);
+    assert!(rt; has_fault(alloc, b"must-open", CertKind::WrongStatus)?);
+    assert!(rt; has_fault(alloc, b"must-open 7", CertKind::UnknownId)?);
+    assert!(rt; wants_the_second_version(alloc)?);
     Ok(())
 }

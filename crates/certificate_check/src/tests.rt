@@ -87,28 +87,54 @@ pub(crate) fn shelf_of(
     Ok(MemShelf::new(alloc, files, vec![in alloc; fails]?).in_pieces(width))
 }
 
+// Whether this is what the checker says of the file of this name, where this text is on the shelf.
+fn says_of(
+    alloc: Global,
+    name: &str,
+    text: Vec<u8>,
+    width: usize,
+    fails: u64,
+    expected: Result<Verdict, CertFault>,
+) -> Result<bool, Fail>
+    requires { 0 < width }
+{
+    let inst = example(alloc)?;
+    let mut shelf = shelf_of(alloc, text, width, fails)?;
+    Ok(check(alloc, &inst, &mut shelf, name) == expected)
+}
+
 // Whether this is what the checker says of the text.
 fn says(alloc: Global, text: Vec<u8>, expected: Result<Verdict, CertFault>) -> Result<bool, Fail> {
-    let inst = example(alloc)?;
-    let mut shelf = shelf_of(alloc, text, WIDE, 0)?;
-    Ok(check(alloc, &inst, &mut shelf, "k") == expected)
+    says_of(alloc, "k", text, WIDE, 0, expected)
+}
+
+// Whether this is what the checker says of the certificate with this line instead of its own.
+fn says_with(
+    alloc: Global,
+    number: u64,
+    line: &[u8],
+    expected: Result<Verdict, CertFault>,
+) -> Result<bool, Fail> {
+    says(alloc, text_with(alloc, number, line)?, expected)
 }
 
 // Whether the certificate with this line instead of its own is refused here for this.
 fn refuses(alloc: Global, number: u64, text: &[u8], line: u64, why: Why) -> Result<bool, Fail> {
-    says(
-        alloc,
-        text_with(alloc, number, text)?,
-        Ok(Verdict::No { line, why }),
-    )
+    says_with(alloc, number, text, Ok(Verdict::No { line, why }))
 }
 
 // Whether the certificate with this line instead of its own has this fault there.
 fn has_fault(alloc: Global, line: u64, text: &[u8], kind: CertKind) -> Result<bool, Fail> {
+    says_with(alloc, line, text, Err(CertFault::Text { kind, line }))
+}
+
+// Whether this text ends too soon, in its first line.
+fn ends(alloc: Global, text: &[u8]) -> Result<bool, Fail> {
+    let kind = CertKind::Ended;
     says(
         alloc,
-        text_with(alloc, line, text)?,
-        Err(CertFault::Text { kind, line }),
+        text.to_vec(alloc)?,
+        Err(CertFault::Text { kind, line: 1 }),
     )
 }
 
@@ -120,115 +146,72 @@ fn trails(alloc: Global, more: &[u8]) -> Result<bool, Fail> {
     says(alloc, text, Err(CertFault::Text { kind, line: 10 }))
 }
 
+// Whether the checker says yes to the certificate, where a read gives no more bytes than this.
+fn says_yes_in_pieces(alloc: Global, width: usize) -> Result<bool, Fail>
+    requires { 0 < width }
+{
+    says_of(alloc, "k", text_with(alloc, 0, b"")?, width, 0, yes())
+}
+
+// Whether a read of the file of this name fails, where one call of the shelf does.
+fn fails_to_read(alloc: Global, name: &str, fails: u64) -> Result<bool, Fail> {
+    let text = text_with(alloc, 0, b"")?;
+    says_of(alloc, name, text, 60, fails, Err(CertFault::ReadFailed))
+}
+
 fn yes() -> Result<Verdict, CertFault> {
     Ok(Verdict::Yes(Claim::Optimal(22_000_000)))
 }
 
 #[test]
-fn says_yes(rt: HostRuntime) -> Result<(), Fail> {
+fn reads_the_file(rt: HostRuntime) -> Result<(), Fail> {
     let alloc = rt.alloc();
-    assert!(rt; says(alloc, text_with(alloc, 0, b"")?, yes())?);
+    assert!(rt; says_yes_in_pieces(alloc, WIDE)?);
+    assert!(rt; says_yes_in_pieces(alloc, 1)?);
+    assert!(rt; fails_to_read(alloc, "k", 2)?);
+    assert!(rt; fails_to_read(alloc, "other", 0)?);
     Ok(())
 }
 
 #[test]
-fn says_yes_in_pieces(rt: HostRuntime) -> Result<(), Fail> {
+fn refuses_what_shows_no_claim(rt: HostRuntime) -> Result<(), Fail> {
     let alloc = rt.alloc();
-    let inst = example(alloc)?;
-    let mut shelf = shelf_of(alloc, text_with(alloc, 0, b"")?, 1, 0)?;
-    assert!(rt; check(alloc, &inst, &mut shelf, "k") == yes());
+    let open = Why::LeafOpen {
+        bound: 21_000_000,
+        q: 1,
+    };
+    let dear = Why::CostDiffers { found: 22_000_000 };
+    let closed = Why::PlanRefused(PlanFault::ServedByClosed);
+    assert!(rt; refuses(alloc, 7, b"v 11000000 2000000 8000000", 6, open)?);
+    assert!(rt; refuses(alloc, 3, b"claim optimal 21.000000", 5, dear)?);
+    assert!(rt; refuses(alloc, 5, b"serve 1 1 2", 5, closed)?);
     Ok(())
 }
 
+// The ids of the last line rise, though both are longer than any number that is held.
 #[test]
-fn refuses_a_leaf_that_does_not_close(rt: HostRuntime) -> Result<(), Fail> {
-    let bound = 21_000_000;
-    let line = b"v 11000000 2000000 8000000";
-    assert!(rt; refuses(rt.alloc(), 7, line, 6, Why::LeafOpen { bound, q: 1 })?);
-    Ok(())
-}
-
-#[test]
-fn refuses_another_cost(rt: HostRuntime) -> Result<(), Fail> {
-    let found = 22_000_000;
-    let line = b"claim optimal 21.000000";
-    assert!(rt; refuses(rt.alloc(), 3, line, 5, Why::CostDiffers { found })?);
-    Ok(())
-}
-
-#[test]
-fn refuses_a_plan(rt: HostRuntime) -> Result<(), Fail> {
-    let why = Why::PlanRefused(PlanFault::ServedByClosed);
-    assert!(rt; refuses(rt.alloc(), 5, b"serve 1 1 2", 5, why)?);
-    Ok(())
-}
-
-#[test]
-fn finds_words_that_are_not_due(rt: HostRuntime) -> Result<(), Fail> {
-    assert!(rt; has_fault(rt.alloc(), 1, b"dualoc-certificate 3", CertKind::BadLine)?);
-    assert!(rt; has_fault(rt.alloc(), 8, b"end", CertKind::BadLine)?);
-    Ok(())
-}
-
-#[test]
-fn finds_another_spelling(rt: HostRuntime) -> Result<(), Fail> {
-    assert!(rt; has_fault(rt.alloc(), 5, b"serve 1 01 1", CertKind::NotCanonical)?);
-    assert!(rt; has_fault(rt.alloc(), 9, b"end ", CertKind::NotCanonical)?);
-    Ok(())
-}
-
-#[test]
-fn finds_numbers_outside_their_limits(rt: HostRuntime) -> Result<(), Fail> {
-    assert!(rt; has_fault(rt.alloc(), 6, b"leaf 1000001 0", CertKind::OutOfRange)?);
-    assert!(rt; has_fault(rt.alloc(), 8, b"u 1 5", CertKind::OutOfRange)?);
-    Ok(())
-}
-
-// The ids rise, though both are longer than any number that is held.
-#[test]
-fn tells_huge_numbers_apart(rt: HostRuntime) -> Result<(), Fail> {
-    let line = b"open 10000000000000000000000000000000 20000000000000000000000000000000";
-    assert!(rt; has_fault(rt.alloc(), 4, line, CertKind::OutOfRange)?);
-    Ok(())
-}
-
-#[test]
-fn finds_what_the_instance_lacks(rt: HostRuntime) -> Result<(), Fail> {
-    assert!(rt; has_fault(rt.alloc(), 2, b"sites 2 customers 4", CertKind::WrongSizes)?);
-    assert!(rt; has_fault(rt.alloc(), 4, b"open 1 3", CertKind::UnknownId)?);
-    Ok(())
-}
-
-#[test]
-fn finds_an_early_end(rt: HostRuntime) -> Result<(), Fail> {
+fn finds_faults_of_form(rt: HostRuntime) -> Result<(), Fail> {
     let alloc = rt.alloc();
-    let kind = CertKind::Ended;
-    assert!(rt;
-        says(
-            alloc,
-            Vec::new(alloc),
-            Err(CertFault::Text { kind, line: 1 })
-        )?
-    );
-    let first = line_of(1).to_vec(alloc)?;
-    assert!(rt; says(alloc, first, Err(CertFault::Text { kind, line: 1 }))?);
+    let huge = b"open 10000000000000000000000000000000 20000000000000000000000000000000";
+    assert!(rt; has_fault(alloc, 1, b"dualoc-certificate 3", CertKind::BadLine)?);
+    assert!(rt; has_fault(alloc, 8, b"end", CertKind::BadLine)?);
+    assert!(rt; has_fault(alloc, 5, b"serve 1 01 1", CertKind::NotCanonical)?);
+    assert!(rt; has_fault(alloc, 9, b"end ", CertKind::NotCanonical)?);
+    assert!(rt; has_fault(alloc, 6, b"leaf 1000001 0", CertKind::OutOfRange)?);
+    assert!(rt; has_fault(alloc, 8, b"u 1 5", CertKind::OutOfRange)?);
+    assert!(rt; has_fault(alloc, 2, b"sites 2 customers 4", CertKind::WrongSizes)?);
+    assert!(rt; has_fault(alloc, 4, b"open 1 3", CertKind::UnknownId)?);
+    assert!(rt; has_fault(alloc, 4, huge, CertKind::OutOfRange)?);
     Ok(())
 }
 
 #[test]
-fn finds_what_follows(rt: HostRuntime) -> Result<(), Fail> {
-    assert!(rt; trails(rt.alloc(), b"x")?);
-    assert!(rt; trails(rt.alloc(), b"\n")?);
-    Ok(())
-}
-
-#[test]
-fn tells_a_failing_read(rt: HostRuntime) -> Result<(), Fail> {
+fn finds_where_the_text_ends(rt: HostRuntime) -> Result<(), Fail> {
     let alloc = rt.alloc();
-    let inst = example(alloc)?;
-    let mut shelf = shelf_of(alloc, text_with(alloc, 0, b"")?, 60, 2)?;
-    assert!(rt; check(alloc, &inst, &mut shelf, "k") == Err(CertFault::ReadFailed));
-    assert!(rt; check(alloc, &inst, &mut shelf, "other") == Err(CertFault::ReadFailed));
+    assert!(rt; ends(alloc, b"")?);
+    assert!(rt; ends(alloc, line_of(1))?);
+    assert!(rt; trails(alloc, b"x")?);
+    assert!(rt; trails(alloc, b"\n")?);
     Ok(())
 }
 
