@@ -200,8 +200,6 @@ CHANGES = [(b"22.000000", b"21.000000"), (b"serve 1 1 1", b"serve 1 1 2"), (b" 2
            (b"u\n", b"u 1 5\n"), (b"end\n", b""), (b"end\n", b"end\nx\n"), (b"open 1", b"open 7"),
            (b"customers 3", b"customers 4"), (b"9000000", b"8000000"), (b"9000000", b"9" * 100),
            (b"open 1", b"open " + b"1" * 40 + b" " + b"2" * 40)]
-
-
 PIECES = b" \t\r\n+-0123456789.xnoneu\0\xff"
 
 

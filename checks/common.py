@@ -7,7 +7,7 @@ import tempfile
 
 MICRO = 10**6
 # What a program that hangs is given, in seconds.
-PATIENCE = 60
+PATIENCE = 100
 
 
 def money(micro):
