@@ -4,12 +4,9 @@ The reading goes over the whole list of a certificate's lines, knows the UflLib 
 up every bound anew. Both are asked about a few certificates, all their proper prefixes, all deletions of one
 byte, and many random changes; and the program about two files that are longer than any that is looked at.
 """
-import os
-import random
 import re
-import subprocess
-import sys
-import tempfile
+
+from common import main, money, texts
 
 MAX_COST = 8 * 10**18
 MAX_ID = 2**32 - 1
@@ -31,10 +28,6 @@ class Instance:
         rows = [numbers[3 + i * (self.n + 2):][:self.n + 2] for i in range(self.m)]
         self.fixed = [row[1] for row in rows]
         self.lanes = [row[2:] for row in rows]
-
-
-def money(micro):
-    return f"{micro // 10**6}.{micro % 10**6:06}"
 
 
 def bound(inst, path, q, nu, v):
@@ -207,54 +200,31 @@ CHANGES = [(b"22.000000", b"21.000000"), (b"serve 1 1 1", b"serve 1 1 2"), (b" 2
            (b"u\n", b"u 1 5\n"), (b"end\n", b""), (b"end\n", b"end\nx\n"), (b"open 1", b"open 7"),
            (b"customers 3", b"customers 4"), (b"9000000", b"8000000"), (b"9000000", b"9" * 100),
            (b"open 1", b"open " + b"1" * 40 + b" " + b"2" * 40)]
+PIECES = b" \t\r\n+-0123456789.xnoneu\0\xff"
 
 
-def texts(original, count):
-    """The text, its proper prefixes, the text without each byte, and random changes."""
-    yield original
-    for place in range(len(original)):
-        yield original[:place]
-        yield original[:place] + original[place + 1:]
-    for old, new in CHANGES:
-        yield original.replace(old, new)
-    for _ in range(count):
-        place = random.randrange(len(original) + 1)
-        piece = bytes(random.choice(b" \t\r\n+-0123456789.xnoneu\0\xff") for _ in range(random.randrange(1, 3)))
-        yield original[:place] + piece + original[place + random.randrange(3):]
+def compare(program, text, due):
+    """Stops where the program doesn't answer the certificate with the line that is due."""
+    program.write("k", text)
+    status = 0 if due.startswith("yes") else 3
+    program.expect(due + "\n", status, text, "check", "ufl", "a", "k")
 
 
-def compare(program, folder, text, due):
-    """Stops where the program doesn't answer the certificate in the folder's file `k` with the line that is due."""
-    run = subprocess.run([program, "check", "ufl", "a", "k"], cwd=folder, capture_output=True, text=True)
-    status = 0 if due.startswith("yes") else 8 if due.startswith("too large") else 3
-    if (run.stdout, run.returncode) != (due + "\n", status):
-        sys.exit(f"check: {text!r}: {run.stdout!r} with {run.returncode}, and {due!r} is due")
-
-
-def main():
-    program = os.path.abspath(sys.argv[1])
-    random.seed(1)
-    asked = 0
-    with tempfile.TemporaryDirectory() as folder:
-        instance, name = os.path.join(folder, "a"), os.path.join(folder, "k")
-        for form, certificate in [(PAIR, BEST), (RING, SPLIT), (RING, BOTH)]:
-            inst = Instance(form)
-            with open(instance, "w") as file:
-                file.write(form)
-            for text in texts(certificate.encode(), 600):
-                with open(name, "wb") as file:
-                    file.write(text)
-                compare(program, folder, text, verdict(inst, text))
-                asked += 1
-        # Longer than the limit: a first line with a fault, and one without an end. What follows is a hole in the file.
-        for front, due in [(b"x\n", "no BadLine line 1"), (b"x", "too large certificate")]:
-            with open(name, "wb") as file:
-                file.write(front)
-                file.truncate(MAX_BYTES + 1)
-            compare(program, folder, front, due)
-            asked += 1
-    print(f"certificates: {asked} verdicts agree")
+def check(program):
+    for form, certificate in [(PAIR, BEST), (RING, SPLIT), (RING, BOTH)]:
+        inst, original = Instance(form), certificate.encode()
+        program.write("a", form.encode())
+        changed = [original.replace(old, new) for old, new in CHANGES]
+        for text in [*changed, *texts(original, PIECES, 600)]:
+            compare(program, text, verdict(inst, text))
+    # Longer than the limit: a first line with a fault, and one without an end. What follows is a hole in the file.
+    for front, due, status in [(b"x\n", "no BadLine line 1\n", 3), (b"x", "too large certificate\n", 8)]:
+        program.write("k", front)
+        with open(program.at("k"), "r+b") as file:
+            file.truncate(MAX_BYTES + 1)
+        program.expect(due, status, front, "check", "ufl", "a", "k")
+    return f"certificates: {program.asked} verdicts agree"
 
 
 if __name__ == "__main__":
-    main()
+    main(check)
