@@ -51,10 +51,8 @@ node_text sites (OnLane s c a b) = split_text sites (counts_line (codes "lane") 
 abbrev pub IsAddedAt : List ℕ → Node → ℕ → List ℕ → List ℕ → Type 0
 IsAddedAt sites t at old new = IfSome (slice_get (flat t) at) (λ e. new ≡ old ++ entry_text sites e)
 
-pub added_at : (sites old new : List ℕ) (t : Node) (at : ℕ) → at < length (flat t) → old ≡ [] → IsAddedAt sites t at old new → new ≡ entry_text sites (get_or (flat t) at (End no_duals))
-added_at sites old new t at within empty is =
-    subst (λ o. IfSome o (λ e. new ≡ old ++ entry_text sites e)) (slice_get-get_or (flat t) at (End no_duals) within) is
-    ∙ ap (λ o. o ++ entry_text sites (get_or (flat t) at (End no_duals))) empty
+pub added_at : (sites old new : List ℕ) (t : Node) (at : ℕ) → at < length (flat t) → IsAddedAt sites t at old new → new ≡ old ++ entry_text sites (get_or (flat t) at (End no_duals))
+added_at sites old new t at within is = subst (λ o. IfSome o (λ e. new ≡ old ++ entry_text sites e)) (slice_get-get_or (flat t) at (End no_duals) within) is
 
 split_of_entry : (sites old new : List ℕ) (o : Option Entry) (node : Shown) → option_map entry_shown o ≡ Some node → None ≡ option_and_then duals_of o
     → new ≡ old ++ text_of_lines (split_lines node) → IfSome o (λ e. new ≡ old ++ entry_text sites e)

@@ -41,6 +41,40 @@ held_some start before after name front more rest whole is parts (inr some) =
     ∙ ap (λ t. front ++ t) (sym (append_assoc (take some.0 more) (drop some.0 more) rest) ∙ ap (λ t. t ++ rest) (take-append-drop some.0 more))
     ∙ parts)
 
+-- The file holds a front of the text, and with what is gathered behind it that comes up to a place.
+abbrev pub IsGathered : Option Files → Option Files → List ℕ → List ℕ → List ℕ → Type 0
+IsGathered start now name text upto = (front : List ℕ) × (now ≡ with_file start name front) × (front ++ text ≡ upto)
+
+module _ (start now : Option Files) (name text upto : List ℕ) (so_far : IsGathered start now name text upto) where
+  -- more is gathered
+  pub gathered_more : (next more further : List ℕ) → next ≡ text ++ more → upto ++ more ≡ further → IsGathered start now name next further
+  gathered_more next more further step reaches =
+      (so_far.0, so_far.1, ap (λ t. so_far.0 ++ t) step ∙ sym (append_assoc so_far.0 text more) ∙ ap (λ t. t ++ more) so_far.2 ∙ reaches)
+
+  module _ (rest whole : List ℕ) (parts : upto ++ rest ≡ whole) where
+    behind : so_far.0 ++ (text ++ rest) ≡ whole
+    behind = sym (append_assoc so_far.0 text rest) ∙ ap (λ t. t ++ rest) so_far.2 ∙ parts
+
+    -- the file holds a prefix of the whole
+    pub gathered_prefix : LeavesPrefix start now name whole
+    gathered_prefix = held start now name so_far.0 (text ++ rest) whole so_far.1 behind
+
+    -- so it does once some of what is gathered was added
+    pub gathered_some : (after : Option Files) → AddsPrefix now after name text → LeavesPrefix start after name whole
+    gathered_some after added = held_some start now after name so_far.0 text rest whole so_far.1 behind added
+
+  -- where that comes up to the end, too
+  pub gathered_last : (after : Option Files) → AddsPrefix now after name text → LeavesPrefix start after name upto
+  gathered_last after added = gathered_some [] upto (append-nil upto) after added
+
+  -- all that is gathered was added
+  pub gathered_all : (after : Option Files) → after ≡ with_added now name text → after ≡ with_file start name upto
+  gathered_all after added = held_all start now after name so_far.0 text so_far.1 added ∙ ap (with_file start name) so_far.2
+
+  -- and nothing is gathered then
+  pub gathered_anew : (after : Option Files) (next : List ℕ) → after ≡ with_added now name text → next ≡ [] → IsGathered start after name next upto
+  gathered_anew after next added none = (upto, gathered_all after added, ap (λ t. upto ++ t) none ∙ append-nil upto)
+
 -- the text of the lines before the tree
 abbrev pub head_text : Instance → Certificate → List ℕ
 head_text I cert = text_of_lines (head_lines I cert)
@@ -92,10 +126,10 @@ module _ (I : Instance) (cert : Certificate) where
   abbrev pub text_at : ℕ → List ℕ
   text_at k = entry_text cert.tree.sites (get_or nodes k (End no_duals))
 
-  text_from : ℕ → List ℕ
+  pub text_from : ℕ → List ℕ
   text_from k = nodes_text cert (drop k nodes) ++ codes "end\n"
 
-  cut : (k : ℕ) → text_before k ++ text_from k ≡ certificate_text I cert
+  pub cut : (k : ℕ) → text_before k ++ text_from k ≡ certificate_text I cert
   unfolding text_before text_from
   cut k =
       let f : Entry → List ℕ = entry_text cert.tree.sites in
@@ -105,15 +139,7 @@ module _ (I : Instance) (cert : Certificate) where
       ∙ ap (λ t. t ++ codes "end\n") (sym (flat_map-append f (take k nodes) (drop k nodes)) ∙ ap (flat_map f) (take-append-drop k nodes)))
       ∙ whole_text
 
-  cut_at : (k : ℕ) → k < length nodes → text_before k ++ (text_at k ++ text_from (k + 1)) ≡ certificate_text I cert
-  unfolding text_from
-  cut_at k within =
-      ap (λ t. text_before k ++ t)
-      (sym (append_assoc (text_at k) (nodes_text cert (drop (k + 1) nodes)) (codes "end\n"))
-      ∙ ap (λ es. nodes_text cert es ++ codes "end\n") (sym (drop_more nodes k (End no_duals) within)))
-      ∙ cut k
-
-  text_next : (k : ℕ) → k < length nodes → text_before k ++ text_at k ≡ text_before (k + 1)
+  pub text_next : (k : ℕ) → k < length nodes → text_before k ++ text_at k ≡ text_before (k + 1)
   unfolding text_before
   text_next k within =
       append_assoc (head_text I cert) (nodes_text cert (take k nodes)) (text_at k)
@@ -122,46 +148,21 @@ module _ (I : Instance) (cert : Certificate) where
       ∙ sym (flat_map-append (entry_text cert.tree.sites) (take k nodes) (get_or nodes k (End no_duals) ∷ []))
       ∙ ap (nodes_text cert) (sym (take_more nodes k (End no_duals) within)))
 
-  cut_behind : (k : ℕ) → length nodes ≤ k → text_before k ++ codes "end\n" ≡ certificate_text I cert
+  pub cut_behind : (k : ℕ) → length nodes ≤ k → text_before k ++ codes "end\n" ≡ certificate_text I cert
   unfolding text_from
   cut_behind k past = ap (λ es. text_before k ++ (nodes_text cert es ++ codes "end\n")) (sym (drop_all k nodes past)) ∙ cut k
 
-  -- the buffer, where it was empty and the lines before the tree were added
-  pub head_alone : {empty made text : List ℕ} → text ≡ made → made ≡ empty ++ head_text I cert → empty ≡ [] → text ≡ head_text I cert
-  head_alone same is none = same ∙ is ∙ ap (λ t. t ++ head_text I cert) none
+  -- the file is empty, and the lines before the tree are gathered
+  pub head_gathered : (start now : Option Files) (name empty text : List ℕ) → now ≡ with_file start name [] → text ≡ empty ++ head_text I cert → empty ≡ [] → IsGathered start now name text (text_before 0)
+  unfolding text_before
+  head_gathered start now name empty text is added none =
+      ([], is, added ∙ ap (λ t. t ++ head_text I cert) none ∙ sym (append-nil (head_text I cert)))
 
-  pub before_node : (start now : Option Files) (name : List ℕ) (k : ℕ) → now ≡ with_file start name (text_before k) → LeavesPrefix start now name (certificate_text I cert)
-  before_node start now name k is = held start now name (text_before k) (text_from k) (certificate_text I cert) is (cut k)
+  module _ (start now : Option Files) (name text next : List ℕ) (k : ℕ) (so_far : IsGathered start now name text (text_before k)) where
+    -- the node at the place is gathered, too
+    pub node_gathered : k < length nodes → next ≡ text ++ text_at k → IsGathered start now name next (text_before (k + 1))
+    node_gathered within added = gathered_more start now name text (text_before k) so_far next (text_at k) (text_before (k + 1)) added (text_next k within)
 
-  module _ (start before after : Option Files) (name text : List ℕ) where
-    -- the three parts, each once it was added in part or whole
-
-    pub head_some : before ≡ with_file start name [] → text ≡ head_text I cert → AddsPrefix before after name text → LeavesPrefix start after name (certificate_text I cert)
-    head_some is same added =
-        held_some start before after name [] text (nodes_text cert nodes ++ codes "end\n") (certificate_text I cert) is
-        (ap (λ t. t ++ (nodes_text cert nodes ++ codes "end\n")) same ∙ whole_text) added
-
-    pub head_all : before ≡ with_file start name [] → text ≡ head_text I cert → after ≡ with_added before name text → after ≡ with_file start name (text_before 0)
-    unfolding text_before
-    head_all is same added =
-        held_all start before after name [] text is added
-        ∙ ap (with_file start name) (same ∙ sym (append-nil (head_text I cert)))
-
-    module _ (k : ℕ) (within : k < length nodes) (is : before ≡ with_file start name (text_before k)) (same : text ≡ text_at k) where
-      pub node_some : AddsPrefix before after name text → LeavesPrefix start after name (certificate_text I cert)
-      node_some added =
-          held_some start before after name (text_before k) text (text_from (k + 1)) (certificate_text I cert) is
-          (ap (λ t. text_before k ++ (t ++ text_from (k + 1))) same ∙ cut_at k within) added
-
-      pub node_all : after ≡ with_added before name text → after ≡ with_file start name (text_before (k + 1))
-      node_all added =
-          held_all start before after name (text_before k) text is added
-          ∙ ap (with_file start name) (ap (λ t. text_before k ++ t) same ∙ text_next k within)
-
-  module _ (start before after : Option Files) (name : List ℕ) (k : ℕ) (past : length nodes ≤ k) (is : before ≡ with_file start name (text_before k)) where
-    pub end_some : AddsPrefix before after name (codes "end\n") → LeavesPrefix start after name (certificate_text I cert)
-    end_some added =
-        held_some start before after name (text_before k) (codes "end\n") [] (certificate_text I cert) is (cut_behind k past) added
-
-    pub end_all : after ≡ with_added before name (codes "end\n") → after ≡ with_file start name (certificate_text I cert)
-    end_all added = held_all start before after name (text_before k) (codes "end\n") is added ∙ ap (with_file start name) (cut_behind k past)
+    -- the last line is, behind the last node
+    pub end_gathered : length nodes ≤ k → next ≡ text ++ codes "end\n" → IsGathered start now name next (certificate_text I cert)
+    end_gathered past added = gathered_more start now name text (text_before k) so_far next (codes "end\n") (certificate_text I cert) added (cut_behind k past)

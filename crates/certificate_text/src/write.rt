@@ -16,8 +16,11 @@ use instance_store::Instance;
 use shelf_port::{PutFault, Shelf, append_whole};
 use std::alloc::{AllocError, Global};
 
-/// Writes the text of a certificate to the named file, whatever it held before. The text goes there
-/// node by node, so that no more of it is held than the lines of one leaf.
+/// From how many bytes on what is gathered goes to the file.
+const PIECE: usize = 65_536;
+
+/// Writes the text of a certificate to the named file, whatever it held before. The text goes there in
+/// pieces, so that no more of it is held than one piece and the lines of one leaf.
 ///
 /// `Failed` comes where a write failed, `NoMemory` where there was none. After either the file is as
 /// before, or holds a prefix of the text.
@@ -41,14 +44,15 @@ pub fn write_cert<H: Shelf>(
     let mut text = Vec::new(alloc);
     push_head(&mut text, inst, cert)?;
     shelf.create(name)?;
-    append_whole(shelf, name, &text)?;
     for at in 0..cert.tree.nodes() {
-        text.clear();
         push_node(&mut text, &cert.tree, at)?;
-        append_whole(shelf, name, &text)?;
+        if text.len() >= PIECE {
+            append_whole(shelf, name, &text)?;
+            text.clear();
+        }
     }
-    append_whole(shelf, name, b"end\n")?;
-    Ok(())
+    text.extend_from_slice(b"end\n")?;
+    append_whole(shelf, name, &text)
 }
 
 // The lines before the tree.
