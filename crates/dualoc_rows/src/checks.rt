@@ -1,6 +1,6 @@
 ghost use Rattle.std.specs.Prelude.{◌<◌};
 
-use crate::rows::{TWO_SITES, WIDTHS};
+use crate::rows::{TWO_SITES, WIDTHS, calls_for, front_before};
 use dualoc_cli::{Status, run};
 use shelf_port::{MemShelf, MemSink, MemSource};
 use std::alloc::Global;
@@ -145,28 +145,21 @@ fn survives_each_failing_read(rt: HostRuntime) -> Result<(), Fail> {
     Ok(())
 }
 
-// The line was written whole, or a front of it before a write failed.
-fn is_written_or_fault(found: &Outcome, status: Status, line: &str) -> bool {
-    found.is(status, line)
-        || (found.status == Status::WriteFault
-            && found.text.len() < line.len()
-            && line.as_bytes().starts_with(&found.text))
+// The line was written whole where the failing write is none that the run makes, else the front before it.
+fn is_cut(found: Outcome, status: Status, line: &str, call: u64) -> bool {
+    let is_whole = call > calls_for(line.len(), 7);
+    found.status == if is_whole { status } else { Status::WriteFault }
+        && found.text.as_slice() == front_before(line, 7, call)
 }
 
 #[test]
-fn survives_each_failing_write(rt: HostRuntime) -> Result<(), Fail> {
+fn stops_at_each_failing_write(rt: HostRuntime) -> Result<(), Fail> {
     let line = "no Ended line 1\n";
     for call in 1..9 {
         let found = checked(rt.alloc(), TWO_SITES, ITS_CERTIFICATE, 7, 0, call)?;
-        assert!(rt;
-            is_written_or_fault(&found, Status::Done, YES),
-            "write {call}"
-        );
+        assert!(rt; is_cut(found, Status::Done, YES, call), "write {call}");
         let found = checked(rt.alloc(), TWO_SITES, "", 7, 0, call)?;
-        assert!(rt;
-            is_written_or_fault(&found, Status::CheckNo, line),
-            "write {call}"
-        );
+        assert!(rt; is_cut(found, Status::CheckNo, line, call), "write {call}");
     }
     Ok(())
 }

@@ -236,36 +236,92 @@ fn names_the_end_of_each_prefix(rt: HostRuntime) -> Result<(), Fail> {
     Ok(())
 }
 
+// How many calls move so many bytes, where one moves so many at most.
+pub(crate) fn calls_for(bytes: usize, width: usize) -> u64
+    requires { 0 < width }
+{
+    bytes.div_ceil(width) as u64
+}
+
+// What an output holds whose call of this number failed, where one takes so many bytes at most.
+pub(crate) fn front_before(text: &str, width: usize, call: u64) -> &[u8] {
+    let count = width.saturating_mul(call.saturating_sub(1) as usize);
+    let bytes = text.as_bytes();
+    &bytes[..count.min(bytes.len())]
+}
+
+// A run one of whose calls on the shelf failed: it is done exactly where the call is none that it makes.
+fn is_done_or_unread(found: Outcome, is_done: bool) -> bool {
+    if is_done {
+        found.status == Status::Done && found.text.as_slice() == ITS_PLAN.as_bytes()
+    } else {
+        found.status == Status::ReadFault && found.text.as_slice() == b"read fault\n".as_slice()
+    }
+}
+
 #[test]
-fn survives_each_failing_call(rt: HostRuntime) -> Result<(), Fail> {
-    let alloc = rt.alloc();
+fn survives_each_failing_read(rt: HostRuntime) -> Result<(), Fail> {
     let file = TWO_SITES.as_bytes();
     for width in WIDTHS {
-        for call in 1..200 {
-            let found = ran(alloc, &SHORT, file, width, call, 0)?;
-            let text = if found.status == Status::Done {
-                ITS_PLAN
-            } else {
-                "read fault\n"
-            };
-            assert!(rt; found.status == Status::Done || found.status == Status::ReadFault);
-            assert_eq!(rt;
-                found.text.as_slice(),
-                text.as_bytes(),
+        // The last read finds the end of the file.
+        let reads = calls_for(file.len(), width) + 1;
+        for call in 1..60 {
+            let found = ran(rt.alloc(), &SHORT, file, width, call, 0)?;
+            assert!(rt;
+                is_done_or_unread(found, call > reads),
                 "read {call} of {width}"
             );
+        }
+    }
+    Ok(())
+}
 
-            let found = ran(alloc, &SHORT, file, width, 0, call)?;
-            assert!(rt; found.status == Status::Done || found.status == Status::WriteFault);
+// A run one of whose writes failed: it has the one status where the write is none that it makes, else the
+// other, and nothing was written behind the write that failed.
+fn is_cut(found: Outcome, front: &[u8], is_whole: bool, whole: Status, cut: Status) -> bool {
+    found.status == if is_whole { whole } else { cut } && found.text.as_slice() == front
+}
+
+#[test]
+fn stops_at_each_failing_write(rt: HostRuntime) -> Result<(), Fail> {
+    for width in WIDTHS {
+        let writes = calls_for(ITS_PLAN.len(), width);
+        for call in 1..100 {
+            let found = ran(rt.alloc(), &SHORT, TWO_SITES.as_bytes(), width, 0, call)?;
+            let front = front_before(ITS_PLAN, width, call);
             assert!(rt;
-                ITS_PLAN.as_bytes().starts_with(&found.text),
+                is_cut(
+                    found,
+                    front,
+                    call > writes,
+                    Status::Done,
+                    Status::WriteFault
+                ),
                 "write {call} of {width}"
             );
-            assert_eq!(rt;
-                found.status == Status::Done,
-                found.text.len() == ITS_PLAN.len()
-            );
         }
+    }
+    Ok(())
+}
+
+// A line that is no result keeps its status where a write of it fails.
+#[test]
+fn keeps_the_status_of_a_line_that_is_cut(rt: HostRuntime) -> Result<(), Fail> {
+    let usage = "usage\n";
+    let fault = "bad input Ended line 1 word 1\n";
+    for call in 1..20 {
+        let found = ran(rt.alloc(), &[], b"", 2, 0, call)?;
+        let front = front_before(usage, 2, call);
+        assert!(rt;
+            is_cut(found, front, true, Status::Usage, Status::Usage),
+            "write {call}"
+        );
+        let found = ran(rt.alloc(), &SHORT, b"", 2, 0, call)?;
+        let front = front_before(fault, 2, call);
+        assert!(rt;
+            is_cut(found, front, true, Status::BadInput, Status::BadInput),
+            "write {call}"
+        );
     }
     Ok(())
 }
