@@ -1,4 +1,5 @@
 pub mod Always
+pub mod Decided
 pub mod Exits
 pub mod Followed
 pub mod Judged

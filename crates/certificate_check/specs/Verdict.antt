@@ -1,5 +1,5 @@
 -- The verdict on the bytes of a certificate: its lines are taken in order, and the first fault, of form or of sense, decides.
-use Rattle.std.specs.Prelude.{◌≡◌, ◌⊎◌, ℕ, ◌+◌, ◌-◌, List, [], ◌∷◌, length, take, Result, Ok, Err, nat_lt, if◌then◌else◌}
+use Rattle.std.specs.Prelude.{◌≡◌, ◌⊎◌, ℕ, ◌+◌, ◌-◌, ◌<◌, List, [], ◌∷◌, length, take, Result, Ok, Err, nat_lt, if◌then◌else◌}
 use Rattle.std.specs.List.{slice_split}
 use Rattle.fixed_cost.specs.Words.{is_line_feed}
 use Rattle.location_terms.specs.Instance.{Instance}
@@ -11,7 +11,8 @@ use Rattle.certificate_check.specs.declared.verdict.Why.{Why}
 use Rattle.certificate_check.specs.declared.verdict.Verdict.{Verdict}
 use Rattle.certificate_check.specs.declared.verdict.Verdict.TheVariants.{Yes, No}
 use Rattle.certificate_lines.specs.declared.fault.CertFault.{CertFault}
-use Rattle.certificate_lines.specs.declared.fault.CertFault.TheVariants.{Text, TooLong}
+use Rattle.certificate_lines.specs.declared.fault.CertFault.TheVariants.{Text, TooLong, ReadFailed}
+use Rattle.certificate_lines.specs.declared.fault.CertFault.TheVariants as unread
 use Rattle.certificate_check.specs.Judgement.{IsAgainst, Stands}
 
 -- what is said of a certificate
@@ -69,3 +70,11 @@ past_limit (Undecided due line) = Err TooLong
 -- The answer on a file of which no more than its first bytes, up to a limit, are looked at: where these decide nothing and more follow, the file is too long, also where they are a whole text.
 abbrev pub IsAnswer : ℕ → Instance → List ℕ → Answer → Type 0
 IsAnswer limit I bytes answer = (outcome : Outcome) × ComesTo I (take limit bytes) outcome × (answer ≡ (if nat_lt limit (length bytes) then past_limit outcome else at_end outcome))
+
+-- an answer that bytes decide: it is no failed read and no want of memory, and too long are only more bytes than the limit
+abbrev pub IsDecided : ℕ → List ℕ → Answer → Type 0
+IsDecided limit bytes (Ok verdict) = Unit {0}
+IsDecided limit bytes (Err (Text kind line)) = Unit {0}
+IsDecided limit bytes (Err TooLong) = limit < length bytes
+IsDecided limit bytes (Err ReadFailed) = ⊥
+IsDecided limit bytes (Err unread.NoMemory) = ⊥

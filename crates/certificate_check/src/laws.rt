@@ -8,7 +8,7 @@ ghost use Rattle.location_terms.specs.declared.claim.Claim.{Claim};
 ghost use Rattle.certificate_lines.specs.Text.{certificate_text};
 ghost use Rattle.certificate_lines.specs.Follow.{HasSmallCosts};
 ghost use Rattle.certificate_lines.specs.declared.limits.TheConstants.{MAX_CERTIFICATE_BYTES};
-ghost use Rattle.certificate_check.specs.Verdict.{Answer, IsAnswer, IsVerdict};
+ghost use Rattle.certificate_check.specs.Verdict.{Answer, IsAnswer, IsDecided, IsVerdict};
 ghost use Rattle.certificate_check.specs.declared.verdict.Verdict.TheVariants.{Yes};
 
 /// Of a valid instance, any bytes have a verdict and only one, and a file has one answer within a limit.
@@ -21,6 +21,8 @@ pub fn verdicts()
         IsValid I → (answer : Answer) × IsVerdict I bytes answer }
     ensures some_within { (limit : ℕ) (I : Instance) (bytes : List ℕ) →
         IsValid I → (answer : Answer) × IsAnswer limit I bytes answer }
+    ensures decided { (limit : ℕ) (I : Instance) (bytes : List ℕ) (answer : Answer) →
+        IsAnswer limit I bytes answer → IsDecided limit bytes answer }
     ensures one { (I : Instance) (bytes : List ℕ) (a b : Answer) →
         IsVerdict I bytes a → IsVerdict I bytes b → a ≡ b }
     ensures one_within { (limit : ℕ) (I : Instance) (bytes : List ℕ) (a b : Answer) →

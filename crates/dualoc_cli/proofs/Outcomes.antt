@@ -13,7 +13,9 @@ use Rattle.certificate_lines.specs.declared.limits.TheConstants.{MAX_CERTIFICATE
 use Rattle.certificate_lines.specs.declared.fault.CertFault.TheVariants.{Text, TooLong, ReadFailed}
 use Rattle.certificate_lines.specs.declared.fault.CertFault.TheVariants as unread
 use Rattle.certificate_check.specs.declared.verdict.Verdict.TheVariants.{Yes, No}
-use Rattle.certificate_check.specs.Verdict.{Answer, IsAnswer}
+use Rattle.certificate_check.specs.Verdict.{Answer, IsAnswer, IsDecided}
+use Rattle.certificate_check.proofs.Always.{some_answer}
+use Rattle.certificate_check.proofs.Decided.{answer_decided}
 use Rattle.certificate_check.proofs.One.{one_answer}
 use Rattle.certificate_check.proofs.Meaning.{accepted_yes_within}
 use Rattle.location_terms.specs.Certificate.{Certificate}
@@ -28,7 +30,7 @@ use Rattle.dualoc_cli.specs.declared.reply.Reply.TheVariants.{NoCommand, Instanc
 use Rattle.dualoc_cli.specs.Command.{Command, OnFile, InstanceFile, Job, SolveShort, Check, command_of, meaning_in}
 use Rattle.dualoc_cli.specs.Status.{when_cut}
 use Rattle.dualoc_cli.specs.Reply.{status_of, text_of}
-use Rattle.dualoc_cli.specs.Due.{Run, AsksFor, HasTask, InstanceFails, CertificateFails, HasManySites, HasFault, IsAnswered, IsConfirmed, IsCause, PrintsWhole, PrintsFront, IsPrinted, Ends, Keeps, Leaves, ChangesNothing, IsTold, IsHindered, MemoryRanOut, InstanceFailed, CertificateFailed, OutputFailed, EndsAs, DeservesYes, IsComplete, Runs}
+use Rattle.dualoc_cli.specs.Due.{Run, AsksFor, HasTask, InstanceFails, CertificateFails, HasManySites, HasFault, IsAnswered, IsConfirmed, IsCause, PrintsWhole, PrintsFront, IsPrinted, Ends, Keeps, Leaves, ChangesNothing, IsTold, IsHindered, MemoryRanOut, InstanceFailed, CertificateFailed, OutputFailed, EndsAs, DeservesYes, IsChecked, IsComplete, Runs}
 
 pub leaves : (asked : Option Command) (before after : Ports) → ChangesNothing before after → Leaves asked before after
 leaves None before after same = same
@@ -232,10 +234,37 @@ module _ (r : Run) where
     exact status ends reply cause other =
         elim (cause_is_due reply cause) [ inl is ↦ ends_as_due (status_of reply) status is ends | inr fails ↦ absurd (other fails.1) ]
 
+    -- what hinders a yes hinders a no
+    no_hindered : (status : Status) → EndsAs r Done status → (status ≡ Done) ⊎ EndsAs r CheckNo status
+    no_hindered status (inl done) = inl done
+    no_hindered status (inr (MemoryRanOut out)) = inr (inr (MemoryRanOut out))
+    no_hindered status (inr (InstanceFailed fails is)) = inr (inr (InstanceFailed fails is))
+    no_hindered status (inr (CertificateFailed fails is)) = inr (inr (CertificateFailed fails is))
+    no_hindered status (inr (OutputFailed rose is)) = inr (inr (OutputFailed rose is))
+
+    said : (status : Status) (bytes : List ℕ) (answer : Answer) → length bytes ≤ MAX_CERTIFICATE_BYTES → IsDecided MAX_CERTIFICATE_BYTES bytes answer
+        → EndsAs r (status_in answer) status → (status ≡ Done) ⊎ EndsAs r CheckNo status
+    unfolding status_in
+    said status bytes (Ok (Yes claim)) within decided ends = no_hindered status ends
+    said status bytes (Ok (No line why)) within decided ends = inr ends
+    said status bytes (Err (Text kind line)) within decided ends = inr ends
+    said status bytes (Err TooLong) within decided ends = absurd (omega (arith, within, decided))
+    said status bytes (Err ReadFailed) within decided ends = absurd decided
+    said status bytes (Err unread.NoMemory) within decided ends = absurd decided
+
+    checked : (status : Status) → Ends r status → (name : List ℕ) (I : Instance) → HasTask r (Check name) I → IsChecked r name I status
+    checked status ends name I task =
+        record {
+          accepted = λ cert deserved held. ends_as_due Done status (accepted_is_due I name cert task deserved held) ends;
+          otherwise = λ bytes held within.
+          let found = some_answer MAX_CERTIFICATE_BYTES I bytes (task_valid r (Check name) I task) in
+          said status bytes found.0 within (answer_decided MAX_CERTIFICATE_BYTES I bytes found.0 found.1)
+          (ends_as_due (status_in found.0) status (task_is_due (Check name) I (status_in found.0) task (bytes, held, (found.0, found.1, refl))) ends);
+        }
+
     complete : (status : Status) → Ends r status → (job : Job) (I : Instance) → HasTask r job I → IsComplete r job I status
     complete status ends SolveShort I task = λ few. ends_as_due Done status (few_is_due I task few) ends
-    complete status ends (Check name) I task =
-        λ cert deserved held. ends_as_due Done status (accepted_is_due I name cert task deserved held) ends
+    complete status ends (Check name) I task = checked status ends name I task
 
   -- Where the words are no command, that alone is answered.
   usage_of : (reply : Reply) → IsCause r reply → command_of r.words ≡ None → status_of reply ≡ Usage

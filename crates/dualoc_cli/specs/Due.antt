@@ -20,7 +20,7 @@ use Rattle.certificate_check.specs.declared.verdict.Verdict.TheVariants.{Yes, No
 use Rattle.certificate_check.specs.Verdict.{Answer, IsAnswer}
 use Rattle.dualoc_cli.specs.declared.limits.TheConstants.{MAX_INSTANCE_BYTES}
 use Rattle.dualoc_cli.specs.declared.status.Status.{Status}
-use Rattle.dualoc_cli.specs.declared.status.Status.TheVariants.{Done, Usage, ReadFault, NoMemory}
+use Rattle.dualoc_cli.specs.declared.status.Status.TheVariants.{Done, CheckNo, Usage, ReadFault, NoMemory}
 use Rattle.dualoc_cli.specs.declared.reply.Reply.{Reply}
 use Rattle.dualoc_cli.specs.declared.reply.Reply.TheVariants.{NoCommand, InstanceUnread, LongInstance, Faulty, ManySites, Optimum, CertificateUnread, LongCertificate, Misspelt, Judged}
 use Rattle.dualoc_cli.specs.Command.{Command, OnFile, InstanceFile, Job, SolveShort, Check, command_of, meaning_in}
@@ -200,10 +200,15 @@ pub data IsHindered (r : Run) (due status : Status) : Type 0 where
 abbrev pub EndsAs : Run → Status → Status → Type 0
 EndsAs r due status = (status ≡ due) ⊎ IsHindered r due status
 
+-- what is due for a check of the file of this name: yes where it holds the text of an accepted certificate, and else no, but for what follows behind the limit
+pub record IsChecked (r : Run) (name : List ℕ) (I : Instance) (status : Status) : Type 0 where
+  pub accepted : (cert : Certificate) → DeservesYes I cert → MayHold r.before.shelf.files name (certificate_text I cert) → EndsAs r Done status
+  pub otherwise : (bytes : List ℕ) → MayHold r.before.shelf.files name bytes → length bytes ≤ MAX_CERTIFICATE_BYTES → (status ≡ Done) ⊎ EndsAs r CheckNo status
+
 -- what is due for a job on an instance, where the files are told
 abbrev pub IsComplete : Run → Job → Instance → Status → Type 0
 IsComplete r SolveShort I status = length I.sites ≤ MAX_WALK_SITES → EndsAs r Done status
-IsComplete r (Check name) I status = (cert : Certificate) → DeservesYes I cert → MayHold r.before.shelf.files name (certificate_text I cert) → EndsAs r Done status
+IsComplete r (Check name) I status = IsChecked r name I status
 
 -- What a run does.
 pub record Runs (r : Run) (status : Status) : Type 0 where
@@ -217,5 +222,5 @@ pub record Runs (r : Run) (status : Status) : Type 0 where
   pub usage : command_of r.words ≡ None → (status ≡ Usage) ⊎ (status ≡ NoMemory)
   -- Where the files are told, a reply whose cause is there gives the status, unless the run is hindered; a count that rose alone is no reason for a read fault.
   pub exact : IsTold r → (reply : Reply) → IsCause r reply → status_of reply ≢ ReadFault → EndsAs r (status_of reply) status
-  -- So an instance of few sites is solved, and an accepted certificate has its yes.
+  -- So an instance of few sites is solved, and a certificate has its yes or its no.
   pub complete : IsTold r → (job : Job) (I : Instance) → HasTask r job I → IsComplete r job I status

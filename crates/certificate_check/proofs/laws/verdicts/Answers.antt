@@ -1,6 +1,7 @@
 -- What the lines lead to, and what they show.
 use Rattle.certificate_lines.specs.declared.limits.TheConstants.{MAX_CERTIFICATE_BYTES}
 use Rattle.certificate_check.proofs.Always.{some_verdict, some_answer}
+use Rattle.certificate_check.proofs.Decided.{answer_decided}
 use Rattle.certificate_check.proofs.Meaning.{yes_means, yes_means_within, yes_holds, accepted_yes, accepted_yes_within}
 use Rattle.certificate_check.proofs.One.{one_verdict, one_answer}
 use Rattle.certificate_check.proofs.laws.verdicts.Goals as goal
@@ -10,6 +11,9 @@ returns-clause-some c = some_verdict
 
 pub returns-clause-some_within : goal.returns-clause-some_within
 returns-clause-some_within c = some_answer
+
+pub returns-clause-decided : goal.returns-clause-decided
+returns-clause-decided c = answer_decided
 
 pub returns-clause-one : goal.returns-clause-one
 returns-clause-one c = one_verdict
