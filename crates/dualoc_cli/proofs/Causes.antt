@@ -3,7 +3,7 @@ use Rattle.std.proofs.Common.{◌≡◌, ◌⊎◌, Ok, Err, ℕ, ◌+◌, ◌<�
 use Rattle.std.specs.Prelude.{IsSomeAnd, replicate}
 use Rattle.std.specs.FinMap.{get}
 use Rattle.std.proofs.lemmas.List.{length-replicate}
-use Rattle.shelf_port.specs.Files.{Files, HasFile, MayHold, Rose, NeverFalls}
+use Rattle.shelf_port.specs.Files.{Files, HasFile, MayHold, Rose}
 use Rattle.shelf_port.specs.Ports.{ShelfState}
 use Rattle.location_terms.specs.Instance.{Instance, IsValid}
 use Rattle.location_terms.specs.Optimal.{ClaimHolds}
@@ -24,7 +24,7 @@ use Rattle.dualoc_cli.specs.declared.words.FileForm.{FileForm}
 use Rattle.dualoc_cli.specs.declared.words.FileForm.TheVariants.{Ufl}
 use Rattle.dualoc_cli.specs.declared.limits.TheConstants.{MAX_INSTANCE_BYTES}
 use Rattle.dualoc_cli.specs.declared.reply.Reply.{Reply}
-use Rattle.dualoc_cli.specs.declared.reply.Reply.TheVariants.{NoCommand, InstanceUnread, LongInstance, Faulty, ManySites, Optimum, CertificateUnread, LongCertificate, Misspelt, Judged}
+use Rattle.dualoc_cli.specs.declared.reply.Reply.TheVariants.{Optimum, CertificateUnread, LongCertificate, Misspelt, Judged}
 use Rattle.dualoc_cli.specs.Command.{InstanceFile, Job, OnFile, Check, command_of, meaning_of}
 use Rattle.dualoc_cli.specs.Due.{Run, IsTooLong, HasTask, FailsToRead, IsAnswered, IsConfirmed, IsCause}
 use Rattle.dualoc_cli.specs.Step.{Covers, IsPrintable}

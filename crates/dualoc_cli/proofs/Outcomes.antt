@@ -3,7 +3,7 @@ use Rattle.std.proofs.Common.{◌≡◌, ◌≢◌, ◌⊎◌, ℕ, ◌<◌, ◌
 use Rattle.std.specs.Prelude.{if◌then◌else◌, nat_lt, false}
 use Rattle.std.specs.FinMap.{get}
 use Rattle.std.proofs.lemmas.Bool.{lt-ltb, cond-true, cond-false, false_from_ne_true, ltb-true}
-use Rattle.shelf_port.specs.Files.{Files, MayHold, Rose}
+use Rattle.shelf_port.specs.Files.{MayHold}
 use Rattle.shelf_port.specs.Streams.{with_back}
 use Rattle.shelf_port.specs.Ports.{Ports}
 use Rattle.location_terms.specs.Instance.{Instance}
@@ -21,7 +21,6 @@ use Rattle.certificate_check.proofs.Meaning.{accepted_yes_within}
 use Rattle.location_terms.specs.Certificate.{Certificate}
 use Rattle.dualoc_cli.proofs.Causes.{task_valid}
 use Rattle.certificate_lines.specs.Text.{certificate_text}
-use Rattle.location_terms.specs.declared.claim.Claim.{Claim}
 use Rattle.dualoc_cli.specs.declared.limits.TheConstants.{MAX_INSTANCE_BYTES}
 use Rattle.dualoc_cli.specs.declared.status.Status.{Status}
 use Rattle.dualoc_cli.specs.declared.status.Status.TheVariants.{Done, Infeasible, Bracket, CheckNo, Usage, BadInput, ReadFault, WriteFault, TooLarge, NoMemory}
@@ -30,7 +29,7 @@ use Rattle.dualoc_cli.specs.declared.reply.Reply.TheVariants.{NoCommand, Instanc
 use Rattle.dualoc_cli.specs.Command.{Command, OnFile, InstanceFile, Job, SolveShort, Check, command_of, meaning_in}
 use Rattle.dualoc_cli.specs.Status.{when_cut}
 use Rattle.dualoc_cli.specs.Reply.{status_of, text_of}
-use Rattle.dualoc_cli.specs.Due.{Run, AsksFor, HasTask, InstanceFails, CertificateFails, HasManySites, HasFault, IsAnswered, IsConfirmed, IsCause, PrintsWhole, PrintsFront, IsPrinted, Ends, Keeps, Leaves, ChangesNothing, IsTold, IsHindered, MemoryRanOut, InstanceFailed, CertificateFailed, OutputFailed, EndsAs, DeservesYes, IsChecked, IsComplete, Runs}
+use Rattle.dualoc_cli.specs.Due.{Run, AsksFor, HasTask, InstanceFails, CertificateFails, HasManySites, HasFault, IsAnswered, IsCause, IsPrinted, Ends, Keeps, Leaves, ChangesNothing, IsTold, IsHindered, MemoryRanOut, InstanceFailed, CertificateFailed, OutputFailed, EndsAs, DeservesYes, IsChecked, IsComplete, Runs}
 
 pub leaves : (asked : Option Command) (before after : Ports) → ChangesNothing before after → Leaves asked before after
 leaves None before after same = same
@@ -257,9 +256,9 @@ module _ (r : Run) where
         record {
           accepted = λ cert deserved held. ends_as_due Done status (accepted_is_due I name cert task deserved held) ends;
           otherwise = λ bytes held within.
-          let found = some_answer MAX_CERTIFICATE_BYTES I bytes (task_valid r (Check name) I task) in
-          said status bytes found.0 within (answer_decided MAX_CERTIFICATE_BYTES I bytes found.0 found.1)
-          (ends_as_due (status_in found.0) status (task_is_due (Check name) I (status_in found.0) task (bytes, held, (found.0, found.1, refl))) ends);
+              let found = some_answer MAX_CERTIFICATE_BYTES I bytes (task_valid r (Check name) I task) in
+              said status bytes found.0 within (answer_decided MAX_CERTIFICATE_BYTES I bytes found.0 found.1)
+              (ends_as_due (status_in found.0) status (task_is_due (Check name) I (status_in found.0) task (bytes, held, (found.0, found.1, refl))) ends);
         }
 
     complete : (status : Status) → Ends r status → (job : Job) (I : Instance) → HasTask r job I → IsComplete r job I status

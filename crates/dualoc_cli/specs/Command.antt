@@ -1,5 +1,5 @@
 -- The commands, by the words of a command line.
-use Rattle.std.specs.Prelude.{◌≡◌, ◌==◌, ℕ, Bool, true, ◌&&◌, not, List, [], ◌∷◌, length, Option, None, Some, Result, codes, bytes_eq, if◌then◌else◌}
+use Rattle.std.specs.Prelude.{◌==◌, ℕ, Bool, true, ◌&&◌, not, List, [], ◌∷◌, length, Option, None, Some, Result, codes, bytes_eq, if◌then◌else◌}
 use Rattle.std.specs.List.{list_any}
 use Rattle.std.specs.Option.{option_map}
 use Rattle.location_terms.specs.Instance.{Instance}

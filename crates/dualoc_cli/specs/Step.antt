@@ -1,5 +1,5 @@
 -- What the parts of a run say of it.
-use Rattle.std.specs.Prelude.{◌≡◌, Option}
+use Rattle.std.specs.Prelude.{◌≡◌}
 use Rattle.shelf_port.specs.Files.{NeverFalls}
 use Rattle.shelf_port.specs.Ports.{ShelfState}
 use Rattle.location_terms.specs.Plan.{IsFeasible}
