@@ -213,10 +213,10 @@ fn leaves_a_prefix(alloc: Global, fails: u64) -> Result<bool, Fail> {
 
 #[test]
 fn leaves_a_prefix_where_a_call_fails(rt: HostRuntime) -> Result<(), Fail> {
-    // One call makes the file, twelve take the lines before the leaf, six the leaf, one the end.
-    for fails in 1..=20 {
+    // One call makes the file, and eighteen take the text.
+    for fails in 1..=19 {
         assert!(rt; leaves_a_prefix(rt.alloc(), fails)?);
     }
-    assert!(rt; !leaves_a_prefix(rt.alloc(), 21)?);
+    assert!(rt; !leaves_a_prefix(rt.alloc(), 20)?);
     Ok(())
 }

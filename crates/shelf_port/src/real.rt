@@ -18,7 +18,7 @@ const TRIES: usize = 64;
 /// The host's files, by path. It tells nothing of them.
 ///
 /// The file that is read stays open, and so does the one that is written. So a pipe, which can't be
-/// read from its front again, is read once in order.
+/// read from its front again, can be read once, in order.
 #[derive(Drop)]
 pub struct RealShelf<R, F> {
     rt: R,
@@ -214,8 +214,8 @@ fn shelf_fault(error: &io::Error, faults: &mut u64) -> ShelfFault
     ShelfFault::Failed
 }
 
-// Reads on in the file that is kept, where it stands at this place, else in the file opened anew. An
-// error lets the file go.
+// Reads on in the file that is kept, where it stands at this place. Else it opens the named file anew,
+// as at the front of one, since the name may be another file's by then. An error lets the file go.
 fn read_on<R: Files + AllocGlobal>(
     rt: &R,
     kept: Option<KeptFile<R::File>>,
@@ -225,7 +225,7 @@ fn read_on<R: Files + AllocGlobal>(
 ) -> io::Result<(KeptFile<R::File>, usize)>
     ensures { IfOk result (λ read. read.1 ≤ length into.new) }
 {
-    let mut kept = match kept.filter(|kept| kept.at == at && kept.name.as_str() == name) {
+    let mut kept = match kept.filter(|kept| at > 0 && kept.at == at && kept.name.as_str() == name) {
         Some(kept) => kept,
         None => open_at(rt, name, at)?,
     };

@@ -1,5 +1,5 @@
 // Which calls of an output were refused.
-ghost use Rattle.std.specs.Prelude.{◌≡◌, ◌^◌, ◌<◌};
+ghost use Rattle.std.specs.Prelude.{◌≡◌};
 ghost use Rattle.shelf_port.specs.RefusalCount.{counted};
 ghost use Rattle.shelf_port.specs.Streams.{no_refusals, taken, refused};
 

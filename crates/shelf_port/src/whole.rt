@@ -2,7 +2,7 @@
 // goes on over short reads and short writes.
 ghost use Rattle.std.specs.Prelude.{◌≡◌, ℕ, ◌<◌, ◌≤◌, length, take, IfOk, OnOk, OnErr, IsErrOf, vec_len};
 ghost use Rattle.shelf_port.specs.Files.{with_file, with_added, HasFile, LeavesPrefix, AddsPrefix, Rose, NeverFalls};
-ghost use Rattle.shelf_port.specs.Streams.{with_back, Refusals, RefusedLast};
+ghost use Rattle.shelf_port.specs.Streams.{with_back, RefusedLast};
 
 use crate::fault::{PutFault, ReadWhole, SinkFault};
 use crate::ports::{Shelf, Sink};
