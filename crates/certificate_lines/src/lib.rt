@@ -24,6 +24,6 @@ pub use limits::MAX_CERTIFICATE_BYTES;
 pub use statuses::{is_all_free, is_status, version};
 
 #[cfg(test)]
-mod head_tests;
+mod fault_tests;
 #[cfg(test)]
-mod tree_tests;
+mod read_tests;
