@@ -98,9 +98,8 @@ def least_cost(fixed, lanes):
 
 def is_cheapest(said, fixed, lanes):
     """Whether the text is a plan's, which is feasible, costs what it says, and is as cheap as any."""
-    rows = [line.split(" ") for line in said.split("\n")]
-    opened = [int(row[1]) for row in rows if row[0] == "site" and row[1].isdigit()]
-    serve = [int(row[2]) for row in rows if row[0] == "serve" and row[2].isdigit()]
+    opened = [int(it) for it in re.findall(r"(?m)^site ([0-9]+) ", said)]
+    serve = [int(it) for it in re.findall(r"(?m)^serve [0-9]+ ([0-9]+) ", said)]
     rises = all(a < b for a, b in zip([0, *opened], [*opened, len(fixed) + 1]))
     if not rises or len(serve) != len(lanes[0]) or not {*serve} <= {*opened}:
         return False
