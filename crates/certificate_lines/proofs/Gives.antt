@@ -41,7 +41,7 @@ gives-unless : (I : Instance) (ok : Bool) (kind : CertKind) (rest : Said) → (o
 gives-unless I true kind rest more = more refl
 gives-unless I false kind rest more = gives-fault I kind
 
-same_read : (due : Due) (shown : Shown) (read : Due × Shown) → shows due shown ≡ Ok read → (due, shown) ≡ read
+pub same_read : (due : Due) (shown : Shown) (read : Due × Shown) → shows due shown ≡ Ok read → (due, shown) ≡ read
 same_read due shown read is = cc
 
 gives-shows : (I : Instance) (due : Due) (shown : Shown) → IsGood I (due, shown) → Gives I (shows due shown)

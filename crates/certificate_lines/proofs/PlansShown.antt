@@ -12,6 +12,7 @@ use Rattle.number_words.specs.Line.{words_of_line}
 use Rattle.certificate_lines.specs.declared.kind.CertKind.{CertKind}
 use Rattle.certificate_lines.specs.Due.{Due, HeaderDue, SizesDue, MustOpenDue, MustClosedDue, ClaimDue, OpenDue, ServeDue, NodeDue, ValuesDue, PricesDue, EndDue, NothingDue, Shown, NothingShown, PlanShown, Suits}
 use Rattle.certificate_lines.specs.Lines.{Said, unless, shows, sizes_in, read_header, read_sites, read_status, claimed, read_claim, read_open, read_serve, node_in, read_values, read_prices, read_end, read_line}
+use Rattle.certificate_lines.proofs.Gives.{same_read}
 use Rattle.certificate_lines.proofs.SpelledPlan.{serve_read}
 
 -- the lists of a plan that is shown rise
@@ -29,9 +30,6 @@ plans-fault kind = record { planned = λ read is. absurd (cc) }
 plans-unless : (ok : Bool) (kind : CertKind) (rest : Said) → Plans rest → Plans (unless ok kind rest)
 plans-unless true kind rest more = more
 plans-unless false kind rest more = plans-fault kind
-
-same_read : (due : Due) (shown : Shown) (read : Due × Shown) → shows due shown ≡ Ok read → (due, shown) ≡ read
-same_read due shown read is = cc
 
 plans-shows : (due : Due) (shown : Shown) → IsPlanned shown → Plans (shows due shown)
 plans-shows due shown planned = record { planned = λ read is. subst (λ (r : Due × Shown). IsPlanned r.1) (same_read due shown read is) planned }
