@@ -1,14 +1,12 @@
 -- There is a verdict on any bytes: against what a line shows something speaks, or it stands.
-use Rattle.std.proofs.Common.{◌≡◌, ◌⊎◌, ℕ, ◌+◌, ◌<◌, ◌≤◌, ◌==◌, Bool, true, false, List, [], ◌∷◌, length, take, refl, sym, ap, ◌∙◌, subst, arith, inl, inr, Ok, Err, zero, suc}
+use Rattle.std.proofs.Common.{◌≡◌, ◌⊎◌, ℕ, ◌+◌, ◌<◌, ◌≤◌, List, [], ◌∷◌, length, take, refl, ap, arith, inl, inr, Ok, Err, zero, suc}
 use Rattle.std.specs.Prelude.{Option, None, Some, IsSomeAnd, ℤ, pos, ◌-ℤ◌, ◌*ℤ◌, ◌≤ℤ◌, ◌<ℤ◌, nat_lt, if◌then◌else◌}
 use Rattle.std.specs.List.{slice_split}
-use Rattle.std.proofs.lemmas.Bool.{cases_Bool, eqb-true, true≢false}
 use Rattle.std.proofs.lemmas.Int.{by_lt_z, ints}
 use Rattle.fixed_cost.specs.Words.{is_line_feed}
 use Rattle.shelf_lines.proofs.Split.{some_piece}
-use Rattle.location_terms.specs.declared.claim.Claim.{Claim}
 use Rattle.location_terms.specs.Instance.{Instance, IsValid}
-use Rattle.location_terms.specs.Plan.{Plan, cost_of}
+use Rattle.location_terms.specs.Plan.{cost_of}
 use Rattle.location_terms.specs.Bound.{bound_of}
 use Rattle.location_terms.specs.Fit.{BoundCloses}
 use Rattle.plan_meaning.proofs.Faults.{OrNot, same_or_not-number, feasible_or_fault}

@@ -1,5 +1,5 @@
 -- Bytes of which an answer is the answer, also where the shelf tells no file: the lines that were taken, and what may follow them.
-use Rattle.std.proofs.Common.{◌≡◌, ◌⊎◌, ℕ, ◌+◌, ◌<◌, ◌≤◌, List, [], ◌∷◌, ◌++◌, length, take, refl, sym, ap, ◌∙◌, subst, inl, inr, arith, append_assoc, length-append, Ok, Err}
+use Rattle.std.proofs.Common.{◌≡◌, ℕ, ◌+◌, ◌<◌, ◌≤◌, List, [], ◌∷◌, ◌++◌, length, take, refl, sym, ap, ◌∙◌, subst, inl, inr, arith, append_assoc, Err}
 use Rattle.std.specs.Prelude.{All, replicate, false, Option, None, Some, IsSomeAnd}
 use Rattle.std.specs.FinMap.{get}
 use Rattle.std.proofs.lemmas.List.{length-replicate}
@@ -9,16 +9,15 @@ use Rattle.shelf_lines.specs.Line.{is_line_feed, IsLine}
 use Rattle.shelf_lines.specs.Rest.{LineState, unread}
 use Rattle.location_terms.specs.declared.claim.Claim.{Claim}
 use Rattle.location_terms.specs.Instance.{Instance}
-use Rattle.certificate_lines.specs.declared.kind.CertKind.TheVariants.{Ended, Trailing}
+use Rattle.certificate_lines.specs.declared.kind.CertKind.TheVariants.{Trailing}
 use Rattle.certificate_lines.specs.declared.fault.CertFault.{CertFault}
 use Rattle.certificate_lines.specs.declared.fault.CertFault.TheVariants.{Text, TooLong}
 use Rattle.certificate_lines.specs.Due.{Due, HeaderDue, NothingDue}
 use Rattle.certificate_lines.specs.Lines.{read_line}
 use Rattle.certificate_lines.specs.Text.{text_of_lines}
 use Rattle.certificate_lines.proofs.Printed.{pieces_of_text}
-use Rattle.certificate_check.specs.declared.verdict.Verdict.TheVariants.{Yes}
-use Rattle.certificate_check.specs.Verdict.{Answer, Outcome, Decided, Undecided, at_rest, LeadsTo, at_end, IsAnswer}
-use Rattle.certificate_check.specs.Step.{Decides, IsUnread, MayClose, MayMiss, claim_behind}
+use Rattle.certificate_check.specs.Verdict.{Answer, Outcome, Decided, at_rest, LeadsTo, at_end, IsAnswer}
+use Rattle.certificate_check.specs.Step.{Decides, MayClose, MayMiss, claim_behind}
 use Rattle.certificate_check.proofs.Within.{verdict_within}
 use Rattle.certificate_check.proofs.Rest.{cut, open_rest, open_end}
 use Rattle.certificate_check.proofs.Passed.{Passed, length-one_more, decides_anyway}
