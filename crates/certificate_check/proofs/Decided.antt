@@ -1,15 +1,14 @@
 -- That bytes decide each answer.
-use Rattle.std.proofs.Common.{◌≡◌, ◌⊎◌, ℕ, ◌+◌, ◌<◌, Bool, true, false, List, [], ◌∷◌, length, take, Result, Ok, Err, refl, sym, subst, inl, inr}
+use Rattle.std.proofs.Common.{◌≡◌, ℕ, ◌+◌, ◌<◌, Bool, true, false, List, [], ◌∷◌, length, take, Ok, Err, refl, sym, subst, inl, inr}
 use Rattle.std.specs.Prelude.{nat_lt, if◌then◌else◌}
 use Rattle.std.specs.List.{slice_split}
 use Rattle.std.proofs.lemmas.Bool.{ltb-true}
 use Rattle.fixed_cost.specs.Words.{is_line_feed}
 use Rattle.location_terms.specs.Instance.{Instance}
-use Rattle.certificate_lines.specs.Due.{Due, HeaderDue, NothingDue, Shown}
+use Rattle.certificate_lines.specs.Due.{Due, HeaderDue, NothingDue}
 use Rattle.certificate_lines.specs.Lines.{Said, read_line}
 use Rattle.certificate_lines.specs.declared.fault.CertFault.TheVariants.{Text, TooLong, ReadFailed}
 use Rattle.certificate_lines.specs.declared.fault.CertFault.TheVariants as unread
-use Rattle.certificate_check.specs.Judgement.{Stands}
 use Rattle.certificate_check.specs.Verdict.{Answer, Outcome, Decided, Undecided, TakesLine, LeadsTo, IsAnswer, IsDecided, at_rest, at_end, past_limit}
 
 -- an outcome that lines lead to: what is decided in it is a verdict or a fault of the text

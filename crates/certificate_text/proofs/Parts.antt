@@ -2,7 +2,7 @@
 use Rattle.std.proofs.Common.{◌≡◌, ℕ, ◌+◌, ◌<◌, ◌≤◌, List, [], ◌∷◌, ◌++◌, length, length-append, get_or, take, drop, refl, ap, sym, ◌∙◌, arith, append_assoc, append-nil, inl, inr, Option}
 use Rattle.std.specs.Prelude.{codes, flat_map, Result, OnOk}
 use Rattle.std.proofs.lemmas.Grind.{flat_map-append}
-use Rattle.std.proofs.lemmas.List.{take_at, take_more, drop_more, drop_all, take-append-drop}
+use Rattle.std.proofs.lemmas.List.{take_at, take_more, drop_all, take-append-drop}
 use Rattle.shelf_port.proofs.Results.{OnOk-then}
 use Rattle.shelf_port.specs.Files.{Files, with_file, with_added, LeavesPrefix, AddsPrefix}
 use Rattle.shelf_port.proofs.Told.{with_added-with_file}
