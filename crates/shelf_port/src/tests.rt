@@ -26,25 +26,33 @@ fn moved(calls: u64, width: usize) -> &'static [u8] {
     &bytes[..count.min(bytes.len())]
 }
 
+// Whether these are the bytes of the file, read whole.
+fn reads_as<H: Shelf>(alloc: Global, shelf: &mut H, name: &str, limit: u64, text: &[u8]) -> bool {
+    match read_whole(alloc, shelf, name, limit) {
+        Ok(bytes) => bytes.as_slice() == text,
+        Err(_) => false,
+    }
+}
+
+// Why the file isn't read whole, where it isn't.
+fn read_fault<H: Shelf>(alloc: Global, shelf: &mut H, name: &str, limit: u64) -> Option<ReadWhole> {
+    read_whole(alloc, shelf, name, limit).err()
+}
+
 #[test]
 fn reads_whole(rt: HostRuntime) -> Result<(), Fail> {
     let alloc = rt.alloc();
+    let text = TEXT.as_bytes();
     let limit = TEXT.len() as u64;
     for (width, calls) in WIDTHS {
-        let calls = u64::from(calls);
         // The last read of a file finds its end.
-        for fails in 0..=calls + 2 {
-            let mut shelf = shelf_of(alloc, TEXT.as_bytes(), width, fails)?;
-            let first = read_whole(alloc, &mut shelf, "a", limit);
-            if fails == 0 || fails == calls + 2 {
-                assert_eq!(rt; first?.as_slice(), TEXT.as_bytes());
-            } else {
-                assert_eq!(rt; first.err(), Some(ReadWhole::Failed));
-                assert_eq!(rt;
-                    read_whole(alloc, &mut shelf, "a", limit)?.as_slice(),
-                    TEXT.as_bytes()
-                );
+        let calls = u64::from(calls) + 1;
+        for fails in 0..=calls + 1 {
+            let mut shelf = shelf_of(alloc, text, width, fails)?;
+            if 0 < fails && fails <= calls {
+                assert!(rt; read_fault(alloc, &mut shelf, "a", limit) == Some(ReadWhole::Failed));
             }
+            assert!(rt; reads_as(alloc, &mut shelf, "a", limit, text));
         }
     }
     Ok(())
@@ -55,36 +63,39 @@ fn refuses_to_read(rt: HostRuntime) -> Result<(), Fail> {
     let alloc = rt.alloc();
     for (width, _) in WIDTHS {
         let mut shelf = shelf_of(alloc, b"12345", width, 0)?;
-        assert_eq!(rt;
-            read_whole(alloc, &mut shelf, "a", 4).err(),
-            Some(ReadWhole::TooLong)
-        );
-        assert_eq!(rt;
-            read_whole(alloc, &mut shelf, "b", 4).err(),
-            Some(ReadWhole::Failed)
-        );
+        assert!(rt; read_fault(alloc, &mut shelf, "a", 4) == Some(ReadWhole::TooLong));
+        assert!(rt; read_fault(alloc, &mut shelf, "b", 4) == Some(ReadWhole::Failed));
     }
     Ok(())
 }
 
+// What a file that held `old` holds, where the call of this number failed that was to make it the text.
+fn left_of(fails: u64, width: usize) -> &'static [u8] {
+    match fails {
+        0 => TEXT.as_bytes(),
+        1 => b"old",
+        _ => moved(fails - 2, width),
+    }
+}
+
+fn holds(shelf: &MemShelf, name: &str, bytes: &[u8]) -> bool {
+    match shelf.file(name) {
+        Some(file) => file == bytes,
+        None => false,
+    }
+}
+
 #[test]
 fn puts_whole(rt: HostRuntime) -> Result<(), Fail> {
-    let alloc = rt.alloc();
     for (width, calls) in WIDTHS {
-        let calls = u64::from(calls);
-        for fails in 0..=calls + 1 {
-            let mut shelf = shelf_of(alloc, b"old", width, fails)?;
-            let put = put_whole(&mut shelf, "a", TEXT.as_bytes());
-            let left = match fails {
-                0 => TEXT.as_bytes(),
-                1 => b"old",
-                _ => moved(fails - 2, width),
-            };
-            assert_eq!(rt; put.is_ok(), fails == 0);
-            assert_eq!(rt; shelf.file("a"), Some(left));
+        for fails in 0..=u64::from(calls) + 1 {
+            let mut shelf = shelf_of(rt.alloc(), b"old", width, fails)?;
+            let is_put = put_whole(&mut shelf, "a", TEXT.as_bytes()).is_ok();
+            assert!(rt; is_put == (fails == 0));
+            assert!(rt; holds(&shelf, "a", left_of(fails, width)));
             put_whole(&mut shelf, "b", TEXT.as_bytes())?;
-            assert_eq!(rt; shelf.file("a"), Some(left));
-            assert_eq!(rt; shelf.file("b"), Some(TEXT.as_bytes()));
+            assert!(rt; holds(&shelf, "a", left_of(fails, width)));
+            assert!(rt; holds(&shelf, "b", TEXT.as_bytes()));
         }
     }
     Ok(())
@@ -121,39 +132,46 @@ fn gives_the_input_in_pieces(rt: HostRuntime) -> Result<(), Fail> {
     Ok(())
 }
 
+// Makes a file twice, and adds to it.
+fn writes_newer<H: Shelf>(shelf: &mut H, name: &str) -> bool {
+    put_whole(shelf, name, TEXT.as_bytes()).is_ok()
+        && put_whole(shelf, name, b"new").is_ok()
+        && append_whole(shelf, name, b"er").is_ok()
+}
+
 #[test]
-fn reaches_the_host(rt: HostRuntime) -> Result<(), Fail> {
-    let alloc = rt.alloc();
+fn reaches_files_of_the_host(rt: HostRuntime) -> Result<(), Fail> {
     let folder = env::temp_dir(&rt)?;
-    let path = folder.join(alloc, "shelf_port_reaches_the_host")?;
+    let path = folder.join(rt.alloc(), "shelf_port_reaches_the_host")?;
     let name = path.to_string_lossy();
     let mut shelf = RealShelf::new(&rt);
-    put_whole(&mut shelf, name, TEXT.as_bytes())?;
-    put_whole(&mut shelf, name, b"new")?;
-    append_whole(&mut shelf, name, b"er")?;
-    let read = read_whole(alloc, &mut shelf, name, 5);
-    let again = read_whole(alloc, &mut shelf, name, 5);
+    let is_written = writes_newer(&mut shelf, name);
+    let is_read = reads_as(rt.alloc(), &mut shelf, name, 5, b"newer");
+    let is_read_again = reads_as(rt.alloc(), &mut shelf, name, 5, b"newer");
     fs::remove_file(&rt, name)?;
-    assert_eq!(rt; read?.as_slice(), b"newer".as_slice());
-    assert_eq!(rt; again?.as_slice(), b"newer".as_slice());
-    assert_eq!(rt; (shelf.read_faults(), shelf.write_faults()), (0, 0));
-
-    assert_eq!(rt;
-        read_whole(alloc, &mut shelf, name, 5).err(),
-        Some(ReadWhole::Failed)
-    );
-    assert_eq!(rt;
-        read_whole(alloc, &mut shelf, ".", 5).err(),
-        Some(ReadWhole::Failed)
-    );
-    assert_eq!(rt; put_whole(&mut shelf, ".", b"new"), Err(PutFault::Failed));
-    assert_eq!(rt; (shelf.read_faults(), shelf.write_faults()), (2, 1));
-
-    let mut sink = RealSink::new(&rt);
-    write_whole(&mut sink, b"written\n")?;
-    assert_eq!(rt; sink.faults(), 0);
-    let mut source = RealSource::new(&rt);
-    assert_eq!(rt; source.read(&mut []), Ok(0));
-    assert_eq!(rt; source.faults(), 0);
+    assert!(rt; is_written && is_read && is_read_again);
+    assert!(rt; shelf.read_faults() == 0 && shelf.write_faults() == 0);
     Ok(())
+}
+
+#[test]
+fn counts_the_faults_of_the_host(rt: HostRuntime) {
+    let mut shelf = RealShelf::new(&rt);
+    let missing = read_fault(rt.alloc(), &mut shelf, "no folder/no file", 5);
+    assert!(rt; missing == Some(ReadWhole::Failed) && shelf.read_faults() == 1);
+    let folder = read_fault(rt.alloc(), &mut shelf, ".", 5);
+    assert!(rt; folder == Some(ReadWhole::Failed) && shelf.read_faults() == 2);
+    assert!(rt; shelf.write_faults() == 0);
+    let is_put = put_whole(&mut shelf, ".", b"new").is_ok();
+    assert!(rt; !is_put && shelf.write_faults() == 1);
+}
+
+#[test]
+fn reaches_the_streams_of_the_host(rt: HostRuntime) {
+    let mut sink = RealSink::new(&rt);
+    let is_written = write_whole(&mut sink, b"written\n").is_ok();
+    assert!(rt; is_written && sink.faults() == 0);
+    let mut source = RealSource::new(&rt);
+    let is_read = source.read(&mut []).is_ok();
+    assert!(rt; is_read && source.faults() == 0);
 }
