@@ -5,7 +5,7 @@ use Rattle.branch_tree.specs.Preorder.{flat}
 use Rattle.branch_tree.proofs.Flat.{length-flat}
 use Rattle.certificate_text.specs.Cert.{certificate_of}
 use Rattle.certificate_text.proofs.Nodes.{added_at}
-use Rattle.certificate_text.proofs.Parts.{IsGathered, gathered_more, gathered_prefix, gathered_some, gathered_all, gathered_last, gathered_anew, head_gathered, node_gathered, end_gathered, text_before, text_at, text_from, cut}
+use Rattle.certificate_text.proofs.Parts.{gathered_prefix, gathered_some, gathered_all, gathered_last, gathered_anew, head_gathered, node_gathered, end_gathered, text_at, cut}
 use Rattle.certificate_text.proofs.write.write_cert.Goals as goal
 use Rattle.certificate_text.proofs.write.write_cert.Goals.{then-len-ge-PIECE+in_ok-append_whole, else-len-ge-PIECE}
 

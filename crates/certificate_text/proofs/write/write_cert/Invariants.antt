@@ -1,4 +1,3 @@
-use Rattle.std.proofs.Common.{◌≡◌}
 use Rattle.shelf_port.specs.Files.{NeverFalls}
 use Rattle.certificate_text.specs.Cert.{certificate_of}
 use Rattle.certificate_text.proofs.Parts.{IsGathered, text_before}
