@@ -1,5 +1,5 @@
 -- What holds of a file, where it is told.
-use Rattle.std.proofs.Common.{◌≡◌, ◌⊎◌, ℕ, List, inl, inr, refl, sym, subst}
+use Rattle.std.proofs.Common.{◌≡◌, ◌⊎◌, ℕ, List, inl, inr, refl, subst}
 use Rattle.std.specs.Prelude.{Option, None, Some, IsSomeAnd, ⊤}
 use Rattle.std.specs.FinMap.{get}
 use Rattle.shelf_port.specs.Files.{Files, HasFile}

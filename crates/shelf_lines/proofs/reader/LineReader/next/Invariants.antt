@@ -1,4 +1,4 @@
-use Rattle.std.proofs.Common.{◌≡◌, ◌⊎◌, ◌+◌, List, [], ℕ, ◌++◌, length}
+use Rattle.std.proofs.Common.{◌≡◌, ◌⊎◌, ◌+◌, [], ◌++◌, length}
 use Rattle.std.specs.Prelude.{⊤}
 use Rattle.shelf_port.specs.Files.{HasFile, NeverFalls}
 use Rattle.shelf_lines.specs.Line.{IsLine}
