@@ -18,7 +18,7 @@ use Rattle.certificate_text.specs.Written.{head_lines, entry_text}
 use Rattle.certificate_text.proofs.Nodes.{text_of_lines-append, one_line, more_lines, node_text}
 
 -- what stands in the file is a prefix of the whole
-pub held : (start now : Option Files) (name front rest whole : List ℕ) → now ≡ with_file start name front → front ++ rest ≡ whole → LeavesPrefix start now name whole
+held : (start now : Option Files) (name front rest whole : List ℕ) → now ≡ with_file start name front → front ++ rest ≡ whole → LeavesPrefix start now name whole
 held start now name front rest whole is parts =
     inr (
       length front,
@@ -27,11 +27,11 @@ held start now name front rest whole is parts =
     )
 
 -- a part more
-pub held_all : (start before after : Option Files) (name front more : List ℕ) → before ≡ with_file start name front → after ≡ with_added before name more → after ≡ with_file start name (front ++ more)
+held_all : (start before after : Option Files) (name front more : List ℕ) → before ≡ with_file start name front → after ≡ with_added before name more → after ≡ with_file start name (front ++ more)
 held_all start before after name front more is added = added ∙ ap (λ told. with_added told name more) is ∙ with_added-with_file start name front more
 
 -- so it is once some of the next part was added
-pub held_some : (start before after : Option Files) (name front more rest whole : List ℕ) → before ≡ with_file start name front → front ++ (more ++ rest) ≡ whole
+held_some : (start before after : Option Files) (name front more rest whole : List ℕ) → before ≡ with_file start name front → front ++ (more ++ rest) ≡ whole
     → AddsPrefix before after name more → LeavesPrefix start after name whole
 held_some start before after name front more rest whole is parts (inl same) = held start after name front (more ++ rest) whole (same ∙ is) parts
 held_some start before after name front more rest whole is parts (inr some) =
@@ -107,7 +107,7 @@ nodes_text cert es = flat_map (entry_text cert.tree.sites) es
 
 module _ (I : Instance) (cert : Certificate) where
   -- the text in its three parts
-  pub whole_text : head_text I cert ++ (nodes_text cert (flat cert.tree.root) ++ codes "end\n") ≡ certificate_text I cert
+  whole_text : head_text I cert ++ (nodes_text cert (flat cert.tree.root) ++ codes "end\n") ≡ certificate_text I cert
   whole_text =
       let nodes : List (List ℕ) = node_lines cert.tree.sites cert.tree.root in
       ap (λ t. head_text I cert ++ (t ++ codes "end\n")) (sym (node_text cert.tree.sites cert.tree.root))
@@ -139,7 +139,7 @@ module _ (I : Instance) (cert : Certificate) where
       ∙ ap (λ t. t ++ codes "end\n") (sym (flat_map-append f (take k nodes) (drop k nodes)) ∙ ap (flat_map f) (take-append-drop k nodes)))
       ∙ whole_text
 
-  pub text_next : (k : ℕ) → k < length nodes → text_before k ++ text_at k ≡ text_before (k + 1)
+  text_next : (k : ℕ) → k < length nodes → text_before k ++ text_at k ≡ text_before (k + 1)
   unfolding text_before
   text_next k within =
       append_assoc (head_text I cert) (nodes_text cert (take k nodes)) (text_at k)
@@ -148,7 +148,7 @@ module _ (I : Instance) (cert : Certificate) where
       ∙ sym (flat_map-append (entry_text cert.tree.sites) (take k nodes) (get_or nodes k (End no_duals) ∷ []))
       ∙ ap (nodes_text cert) (sym (take_more nodes k (End no_duals) within)))
 
-  pub cut_behind : (k : ℕ) → length nodes ≤ k → text_before k ++ codes "end\n" ≡ certificate_text I cert
+  cut_behind : (k : ℕ) → length nodes ≤ k → text_before k ++ codes "end\n" ≡ certificate_text I cert
   unfolding text_from
   cut_behind k past = ap (λ es. text_before k ++ (nodes_text cert es ++ codes "end\n")) (sym (drop_all k nodes past)) ∙ cut k
 
@@ -163,6 +163,6 @@ module _ (I : Instance) (cert : Certificate) where
     pub node_gathered : k < length nodes → next ≡ text ++ text_at k → IsGathered start now name next (text_before (k + 1))
     node_gathered within added = gathered_more start now name text (text_before k) so_far next (text_at k) (text_before (k + 1)) added (text_next k within)
 
-    -- the last line is, behind the last node
+    -- behind the last node the last line is gathered, and with it the whole
     pub end_gathered : length nodes ≤ k → next ≡ text ++ codes "end\n" → IsGathered start now name next (certificate_text I cert)
     end_gathered past added = gathered_more start now name text (text_before k) so_far next (codes "end\n") (certificate_text I cert) added (cut_behind k past)

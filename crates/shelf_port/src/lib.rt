@@ -3,8 +3,8 @@
 //!
 //! A shelf, a source or a sink may tell the bytes that it holds, as those in memory do, or tell
 //! nothing, as those of the host do. Each counts its faults, and answers `Failed` only where such a
-//! count rose. So what is proved over the traits speaks of bytes where they are told, and of causes
-//! everywhere.
+//! count rose. A sink counts each call that it refused, whatever the cause. So what is proved over the
+//! traits speaks of bytes where they are told, and of causes everywhere.
 #![tactic(auto)]
 
 mod fault;
