@@ -1,6 +1,6 @@
 -- The lists of a plan that a line shows rise.
-use Rattle.std.proofs.Common.{◌≡◌, ℕ, Bool, true, false, List, [], ◌∷◌, Option, None, Some, refl, sym, subst, rules}
-use Rattle.std.specs.Prelude.{ℤ, Ok, Err, if◌then◌else◌}
+use Rattle.std.proofs.Common.{◌≡◌, ℕ, Bool, true, false, List, [], ◌∷◌, Option, None, Some, sym, subst, rules}
+use Rattle.std.specs.Prelude.{Ok, Err, if◌then◌else◌}
 use Rattle.std.specs.List.Sorted.{IsStrictlyIncreasing}
 use Rattle.std.proofs.lemmas.Slice.Zip.{firsts-zip}
 use Rattle.location_terms.specs.declared.claim.Claim.{Claim}
@@ -10,8 +10,8 @@ use Rattle.location_terms.specs.Plan.{IsPlan}
 use Rattle.location_terms.specs.Box.{Path, must_open, must_close}
 use Rattle.number_words.specs.Line.{words_of_line}
 use Rattle.certificate_lines.specs.declared.kind.CertKind.{CertKind}
-use Rattle.certificate_lines.specs.Due.{Due, HeaderDue, SizesDue, MustOpenDue, MustClosedDue, ClaimDue, OpenDue, ServeDue, NodeDue, ValuesDue, PricesDue, EndDue, NothingDue, Shown, NothingShown, PlanShown, Suits}
-use Rattle.certificate_lines.specs.Lines.{Said, unless, shows, sizes_in, read_header, read_sites, read_status, claimed, read_claim, read_open, read_serve, node_in, read_values, read_prices, read_end, read_line}
+use Rattle.certificate_lines.specs.Due.{Due, HeaderDue, SizesDue, MustOpenDue, MustClosedDue, ClaimDue, OpenDue, ServeDue, NodeDue, ValuesDue, PricesDue, EndDue, NothingDue, Shown, PlanShown, Suits}
+use Rattle.certificate_lines.specs.Lines.{Said, unless, shows, sizes_in, read_status, claimed, read_serve, node_in, read_line}
 use Rattle.certificate_lines.proofs.SpelledPlan.{serve_read}
 
 -- the lists of a plan that is shown rise

@@ -1,5 +1,5 @@
 -- A plan whose lists rise is feasible, or one part of feasibility is the first that fails.
-use Rattle.std.proofs.Common.{◌≡◌, ◌⊎◌, ℕ, ◌<◌, ◌≤◌, ◌==◌, List, [], ◌∷◌, length, refl, inl, inr, arith}
+use Rattle.std.proofs.Common.{◌≡◌, ◌⊎◌, ℕ, ◌≤◌, ◌==◌, List, [], ◌∷◌, length, refl, inl, inr, arith}
 use Rattle.std.specs.Prelude.{All, Contains, Option, None, Some, IfSome, IsSome, Bool, true, false, bytes_eq}
 use Rattle.std.specs.Bool.{Decides}
 use Rattle.std.specs.List.{list_any}
@@ -13,7 +13,7 @@ use Rattle.location_terms.specs.Instance.{Instance, Site, site_ids, customer_ids
 use Rattle.location_terms.specs.Plan.{Plan, IsPlan, IsFeasible, served, load_of, KeepsStatus}
 use Rattle.plan_meaning.specs.declared.fault.PlanFault.{PlanFault}
 use Rattle.plan_meaning.specs.declared.fault.PlanFault.TheVariants.{UnknownSite, NotEachCustomerOnce, ServedByClosed, NoLane, OverCapacity, SiteCount, StatusBroken}
-use Rattle.plan_meaning.specs.PlanFault.{KnowsSites, ServesEachOnce, ServesFromOpen, UsesLanes, KeepsCap, KeepsCaps, KeepsCount, KeepsStatuses, IsFirstFault}
+use Rattle.plan_meaning.specs.PlanFault.{KeepsCap, KeepsCount, IsFirstFault}
 
 -- it holds, or it does not
 abbrev pub OrNot : Type 0 → Type 0
