@@ -113,18 +113,24 @@ fn decided_tree(alloc: Global, inst: &Instance) -> Result<Tree, Fail>
     split(inst, again, opened)
 }
 
+// The step to a child of the split on the first site.
+fn step_to(opened: bool) -> Decision {
+    let site = SiteId::new(1);
+    if opened {
+        Decision::Opened(site)
+    } else {
+        Decision::Closed(site)
+    }
+}
+
 // Whether the leaves are those of a split on the first site twice, in its first child again.
-fn has_decided_paths(tree: &Tree) -> Result<bool, NoMemory> {
-    let closed = Decision::Closed(SiteId::new(1));
-    let opened = Decision::Opened(SiteId::new(1));
-    Ok(
-        has_path(tree, 0, &[closed, closed])?
-            && has_path(tree, 1, &[closed, opened])?
-            && has_path(tree, 2, &[opened])?
-            && has_depth(tree, 1, 2)
-            && has_step(tree, 1, 0, closed)
-            && has_step(tree, 1, 1, opened),
-    )
+fn has_decided_paths(tree: &Tree) -> bool {
+    has_path(tree, 0, step_to(false), Some(step_to(false)))
+        && has_path(tree, 1, step_to(false), Some(step_to(true)))
+        && has_path(tree, 2, step_to(true), None)
+        && has_depth(tree, 1, 2)
+        && has_step(tree, 1, 0, step_to(false))
+        && has_step(tree, 1, 1, step_to(true))
 }
 
 // Whether the tree has these three nodes and two leaves.
@@ -151,13 +157,23 @@ fn ends_with(tree: &Tree, at: u32, v: [i128; 3]) -> bool {
     }
 }
 
-// Whether the path to a leaf has these steps.
-fn has_path(tree: &Tree, k: usize, steps: &[Decision]) -> Result<bool, NoMemory> {
-    if k >= tree.leaf_count() {
-        return Ok(false);
+// Whether the path has these one or two steps.
+fn has_steps(path: &Path, first: Decision, second: Option<Decision>) -> bool {
+    match second {
+        Some(second) => path.steps() == 2 && path.step(0) == first && path.step(1) == second,
+        None => path.steps() == 1 && path.step(0) == first,
     }
-    let path = tree.leaf_path(k)?;
-    Ok(path.as_slice() == steps)
+}
+
+// Whether the path to a leaf has these steps.
+fn has_path(tree: &Tree, k: usize, first: Decision, second: Option<Decision>) -> bool {
+    if k >= tree.leaf_count() {
+        return false;
+    }
+    match tree.leaf_path(k) {
+        Ok(path) => has_steps(&path, first, second),
+        Err(_) => false,
+    }
 }
 
 fn has_depth(tree: &Tree, k: usize, depth: usize) -> bool {
@@ -208,99 +224,128 @@ fn built_of(
     Ok(builder.finish())
 }
 
-#[test]
-fn shows_its_nodes_and_leaves(rt: HostRuntime) -> Result<(), Fail> {
-    let inst = example(rt.alloc())?;
-    let tree = example_tree(rt.alloc(), &inst)?;
-    let site = Node::Site(SiteId::new(1));
-    assert!(rt; has_nodes(&tree, [site, Node::Leaf, Node::Leaf]));
-    assert!(rt; has_values(&tree, 0, 1, [2_000_000, 2_000_000, 0]));
-    assert!(rt; has_values(&tree, 1, 1, [0, 0, 2_000_000]));
-    Ok(())
+// Whether the tree is the split on the first site, by its nodes and by its leaves.
+fn has_example_nodes(tree: &Tree) -> bool {
+    has_nodes(tree, [Node::Site(SiteId::new(1)), Node::Leaf, Node::Leaf])
+        && has_values(tree, 0, 1, [2_000_000, 2_000_000, 0])
+        && has_values(tree, 1, 1, [0, 0, 2_000_000])
+}
+
+fn has_example_duals(tree: &Tree) -> bool {
+    tree.duals(0).is_none()
+        && tree.duals(3).is_none()
+        && ends_with(tree, 1, [2_000_000, 2_000_000, 0])
+        && ends_with(tree, 2, [0, 0, 2_000_000])
+}
+
+// Whether a leaf is this child.
+fn is_child(tree: &Tree, k: usize, opened: bool) -> bool {
+    has_path(tree, k, step_to(opened), None)
+        && has_depth(tree, k, 1)
+        && has_step(tree, k, 0, step_to(opened))
+}
+
+fn has_example_paths(tree: &Tree) -> bool {
+    is_child(tree, 0, false) && is_child(tree, 1, true)
+}
+
+// Whether the tree is accepted against this low end, or isn't.
+fn accepts(tree: &Tree, inst: &Instance, low: u64, expected: bool) -> bool
+    requires { StandsOn tree.now inst.now }
+{
+    match tree.accepts(inst, Some(low)) {
+        Ok(accepted) => accepted == expected,
+        Err(_) => false,
+    }
+}
+
+fn shows_low(tree: &Tree, inst: &Instance, low: u64) -> bool
+    requires { StandsOn tree.now inst.now }
+{
+    match has_low(tree, inst, low) {
+        Ok(holds) => holds,
+        Err(_) => false,
+    }
+}
+
+// Whether the tree closes up to 4 units, its low end, and no further.
+fn closes_up_to_4(tree: &Tree, inst: &Instance) -> bool
+    requires { StandsOn tree.now inst.now }
+{
+    accepts(tree, inst, 4_000_000, true) && accepts(tree, inst, 4_000_001, false)
+}
+
+fn shows_the_example(alloc: Global, inst: &Instance) -> Result<bool, Fail> {
+    let tree = example_tree(alloc, inst)?;
+    Ok(
+        has_example_nodes(&tree)
+            && has_example_duals(&tree)
+            && has_example_paths(&tree)
+            && closes_up_to_4(&tree, inst)
+            && shows_low(&tree, inst, 4_000_000),
+    )
+}
+
+fn is_built_node_by_node(alloc: Global, inst: &Instance) -> Result<bool, Fail> {
+    let tree = built(alloc, inst)?;
+    Ok(has_example_nodes(&tree))
+}
+
+// Whether the first leaf of the tree is replaced by the part, so that the site is decided twice.
+fn is_replaced(mut tree: Tree, part: Tree) -> bool
+    requires tree { nodes_of tree ≡ 3 }
+    requires part { nodes_of part ≡ 3 }
+    requires sites { part.sites ≡ tree.sites }
+    requires customers { part.customers ≡ tree.customers }
+{
+    tree.leaf_count() == 2
+        && tree.replace_leaf(0, part).is_ok()
+        && tree.nodes() == 5
+        && tree.leaf_count() == 3
+        && has_decided_paths(&tree)
+}
+
+fn replaces_a_leaf(alloc: Global, inst: &Instance) -> Result<bool, Fail> {
+    let tree = example_tree(alloc, inst)?;
+    let part = example_tree(alloc, inst)?;
+    Ok(is_replaced(tree, part))
+}
+
+// Whether a split on a site that is decided is accepted.
+fn accepts_a_decided_site(alloc: Global, inst: &Instance) -> Result<bool, Fail> {
+    let tree = decided_tree(alloc, inst)?;
+    Ok(has_decided_paths(&tree) && closes_up_to_4(&tree, inst))
 }
 
 #[test]
-fn shows_the_duals_of_its_nodes(rt: HostRuntime) -> Result<(), Fail> {
-    let inst = example(rt.alloc())?;
-    let tree = example_tree(rt.alloc(), &inst)?;
-    assert!(rt; tree.duals(0).is_none() && tree.duals(3).is_none());
-    assert!(rt; ends_with(&tree, 1, [2_000_000, 2_000_000, 0]));
-    assert!(rt; ends_with(&tree, 2, [0, 0, 2_000_000]));
+fn trees_of_the_example(rt: HostRuntime) -> Result<(), Fail> {
+    let alloc = rt.alloc();
+    let inst = example(alloc)?;
+    assert!(rt; shows_the_example(alloc, &inst)?);
+    assert!(rt; is_built_node_by_node(alloc, &inst)?);
+    assert!(rt; replaces_a_leaf(alloc, &inst)?);
+    assert!(rt; accepts_a_decided_site(alloc, &inst)?);
     Ok(())
 }
 
-#[test]
-fn closes_up_to_its_low_end(rt: HostRuntime) -> Result<(), Fail> {
-    let inst = example(rt.alloc())?;
-    let tree = example_tree(rt.alloc(), &inst)?;
-    assert!(rt; tree.accepts(&inst, Some(4_000_000))?);
-    assert!(rt; !tree.accepts(&inst, Some(4_000_001))?);
-    Ok(())
+// Whether behind the leaf of this path the walk goes on at one with this one step.
+fn passes_to(path: &mut Path, step: Decision) -> bool {
+    pass_leaf(path) == Ok(true) && path.as_slice() == [step].as_slice()
 }
 
-#[test]
-fn shows_its_low_end(rt: HostRuntime) -> Result<(), Fail> {
-    let inst = example(rt.alloc())?;
-    let tree = example_tree(rt.alloc(), &inst)?;
-    assert!(rt; has_low(&tree, &inst, 4_000_000)?);
-    Ok(())
+fn passes_whole(path: &mut Path) -> bool {
+    pass_leaf(path) == Ok(false) && path.steps() == 0
 }
 
-#[test]
-fn leads_to_each_leaf(rt: HostRuntime) -> Result<(), Fail> {
-    let inst = example(rt.alloc())?;
-    let tree = example_tree(rt.alloc(), &inst)?;
-    let closed = Decision::Closed(SiteId::new(1));
-    let opened = Decision::Opened(SiteId::new(1));
-    assert!(rt; has_path(&tree, 0, &[closed])? && has_path(&tree, 1, &[opened])?);
-    assert!(rt; has_depth(&tree, 0, 1) && has_step(&tree, 0, 0, closed));
-    assert!(rt; has_depth(&tree, 1, 1) && has_step(&tree, 1, 0, opened));
-    Ok(())
-}
-
-#[test]
-fn replaces_a_leaf(rt: HostRuntime) -> Result<(), Fail> {
-    let inst = example(rt.alloc())?;
-    let mut tree = example_tree(rt.alloc(), &inst)?;
-    let part = example_tree(rt.alloc(), &inst)?;
-    assert!(rt; tree.leaf_count() == 2);
-    tree.replace_leaf(0, part)?;
-    assert!(rt; tree.nodes() == 5 && tree.leaf_count() == 3);
-    assert!(rt; has_decided_paths(&tree)?);
-    Ok(())
-}
-
-#[test]
-fn accepts_a_split_on_a_site_that_is_decided(rt: HostRuntime) -> Result<(), Fail> {
-    let inst = example(rt.alloc())?;
-    let tree = decided_tree(rt.alloc(), &inst)?;
-    assert!(rt; has_decided_paths(&tree)?);
-    assert!(rt; tree.accepts(&inst, Some(4_000_000))?);
-    assert!(rt; !tree.accepts(&inst, Some(4_000_001))?);
-    Ok(())
-}
-
-#[test]
-fn is_built_node_by_node(rt: HostRuntime) -> Result<(), Fail> {
-    let inst = example(rt.alloc())?;
-    let tree = built(rt.alloc(), &inst)?;
-    let site = Node::Site(SiteId::new(1));
-    assert!(rt; has_nodes(&tree, [site, Node::Leaf, Node::Leaf]));
-    assert!(rt; has_values(&tree, 0, 1, [2_000_000, 2_000_000, 0]));
-    assert!(rt; has_values(&tree, 1, 1, [0, 0, 2_000_000]));
-    Ok(())
+fn passes_from(mut path: Path) -> bool {
+    passes_to(&mut path, Decision::Opened(SiteId::new(1))) && passes_whole(&mut path)
 }
 
 #[test]
 fn passes_from_leaf_to_leaf(rt: HostRuntime) -> Result<(), Fail> {
-    let site = SiteId::new(1);
-    let other = SiteId::new(2);
     let mut path = Path::root(rt.alloc());
-    path.push(Decision::Closed(site))?;
-    path.push(Decision::Opened(other))?;
-    assert!(rt; pass_leaf(&mut path)?);
-    assert!(rt; path.as_slice() == [Decision::Opened(site)].as_slice());
-    assert!(rt; !pass_leaf(&mut path)?);
-    assert!(rt; path.steps() == 0);
+    path.push(Decision::Closed(SiteId::new(1)))?;
+    path.push(Decision::Opened(SiteId::new(2)))?;
+    assert!(rt; passes_from(path));
     Ok(())
 }

@@ -126,7 +126,7 @@ fn read(alloc: Global, inst: &Instance, due: Due, line: &[u8]) -> Result<Form, L
 
 // Whether the line has the fault of this name.
 fn has_fault(read: Result<Form, LineFault>, name: &str) -> bool {
-    match &read {
+    match read {
         Err(LineFault::Line(kind)) => kind.name() == name,
         _ => false,
     }

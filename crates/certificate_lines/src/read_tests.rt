@@ -16,16 +16,16 @@ use std::test::Fail;
 
 // Whether a plan is due for this claim.
 fn wants_plan(read: Result<Form, LineFault>, claim: Claim) -> bool {
-    match &read {
-        Ok(Form::Open(found)) => *found == claim,
+    match read {
+        Ok(Form::Open(found)) => found == claim,
         _ => false,
     }
 }
 
 // Whether the tree is due for this claim.
 fn wants_tree(read: Result<Form, LineFault>, claim: Claim) -> bool {
-    match &read {
-        Ok(Form::Node(found, path)) => *found == claim && path.steps() == 0,
+    match read {
+        Ok(Form::Node(found, path)) => found == claim && path.steps() == 0,
         _ => false,
     }
 }
@@ -42,8 +42,8 @@ fn due_name(due: &Form) -> &'static str {
 }
 
 fn wants(read: Result<Form, LineFault>, name: &str) -> bool {
-    match &read {
-        Ok(due) => due_name(due) == name,
+    match read {
+        Ok(due) => due_name(&due) == name,
         Err(_) => false,
     }
 }
@@ -80,7 +80,7 @@ fn are_open(alloc: Global) -> bool {
 
 // Whether these are the sites that are open, the sites of the customers being due.
 fn opens(read: Result<Form, LineFault>, ids: &[SiteId]) -> bool {
-    match &read {
+    match read {
         Ok(Form::Serve(_, sites)) => sites.as_slice() == ids,
         _ => false,
     }
@@ -117,8 +117,8 @@ fn is_root(due: &Form) -> bool {
 
 // Whether the root is due, and this plan is shown.
 fn serves_from(read: Result<(Form, Shown), LineFault>, sites: [u32; 3]) -> bool {
-    match &read {
-        Ok((due, shown)) => is_root(due) && shows(shown, sites),
+    match read {
+        Ok((due, shown)) => is_root(&due) && shows(&shown, sites),
         Err(_) => false,
     }
 }
@@ -150,8 +150,8 @@ fn is_site(shown: &Shown, site: SiteId) -> bool {
 }
 
 fn splits_site(read: Result<(Form, Shown), LineFault>, site: SiteId) -> bool {
-    match &read {
-        Ok((due, shown)) => is_site(shown, site) && is_node(due, Decision::Closed(site)),
+    match read {
+        Ok((due, shown)) => is_site(&shown, site) && is_node(&due, Decision::Closed(site)),
         Err(_) => false,
     }
 }
@@ -164,8 +164,8 @@ fn is_lane(shown: &Shown, site: SiteId, cust: CustId) -> bool {
 }
 
 fn splits_lane(read: Result<(Form, Shown), LineFault>, site: SiteId, cust: CustId) -> bool {
-    match &read {
-        Ok((due, shown)) => is_lane(shown, site, cust) && is_node(due, Decision::No(site, cust)),
+    match read {
+        Ok((due, shown)) => is_lane(&shown, site, cust) && is_node(&due, Decision::No(site, cust)),
         Err(_) => false,
     }
 }
@@ -184,8 +184,8 @@ fn wants_values(due: &Form, scale: u32, price: i128) -> bool {
 }
 
 fn begins_leaf(read: Result<(Form, Shown), LineFault>, scale: u32, price: i128) -> bool {
-    match &read {
-        Ok((due, _)) => wants_values(due, scale, price),
+    match read {
+        Ok((due, _)) => wants_values(&due, scale, price),
         Err(_) => false,
     }
 }
@@ -201,8 +201,8 @@ fn is_leaf_line(alloc: Global, inst: &Instance) -> bool {
 }
 
 fn has_values(read: Result<Form, LineFault>, wanted: [i128; 3]) -> bool {
-    match &read {
-        Ok(due) => wants_prices(due, wanted),
+    match read {
+        Ok(due) => wants_prices(&due, wanted),
         Err(_) => false,
     }
 }
@@ -226,9 +226,9 @@ fn is_leaf(shown: &Shown, wanted: [u64; 2]) -> bool {
 
 // Whether the leaf has these prices, and the box where site 3 is open is due.
 fn has_prices(read: Result<(Form, Shown), LineFault>, wanted: [u64; 2]) -> bool {
-    match &read {
+    match read {
         Ok((due, shown)) => {
-            is_leaf(shown, wanted) && is_node(due, Decision::Opened(SiteId::new(3)))
+            is_leaf(&shown, wanted) && is_node(&due, Decision::Opened(SiteId::new(3)))
         }
         Err(_) => false,
     }
@@ -261,8 +261,8 @@ fn is_whole(due: &Form) -> bool {
 }
 
 fn is_trailing(read: Result<(Form, Shown), LineFault>) -> bool {
-    match &read {
-        Err(LineFault::Line(kind)) => *kind == CertKind::Trailing,
+    match read {
+        Err(LineFault::Line(kind)) => kind == CertKind::Trailing,
         _ => false,
     }
 }

@@ -45,16 +45,6 @@ fn example(alloc: Global, lo: u32, hi: u32) -> Result<Instance, NoMemory>
     Instance::from_parts(alloc, lo, hi, 3, 4, custs, sites)
 }
 
-// The same two sites with these statuses.
-fn settled(alloc: Global, statuses: [SiteStatus; 2]) -> Result<Instance, NoMemory> {
-    let mut inst = example(alloc, 0, 3_000)?;
-    if inst.sites() == 2 {
-        inst.set_status(0, statuses[0]);
-        inst.set_status(1, statuses[1]);
-    }
-    Ok(inst)
-}
-
 // Two sites with a capacity of 10, and two customers with a demand of 6 each.
 fn capacitated(alloc: Global) -> Result<Instance, NoMemory> {
     let first = vec![in alloc; Some(6_739_725_000), Some(3_000_000)]?;
@@ -153,11 +143,11 @@ struct Prices<'a> {
     q: u32,
     nu: i128,
     v: &'a [i128],
-    u: &'a [u64],
+    u: [u64; 2],
 }
 
 fn duals_of(alloc: Global, prices: Prices<'_>) -> Result<Duals, NoMemory> {
-    duals(alloc, prices.q, prices.nu, prices.v, prices.u)
+    duals(alloc, prices.q, prices.nu, prices.v, &prices.u)
 }
 
 fn has_slack(inst: &Instance, path: &Path, duals: &Duals, site: usize, expected: i128) -> bool {
@@ -168,209 +158,179 @@ fn has_bound(inst: &Instance, path: &Path, duals: &Duals, expected: i128) -> boo
     fit(inst, duals) && bound(inst, path, duals) == expected
 }
 
-// Whether the path leaves both sites these slacks, and the box has this bound.
+// Whether the box of these steps leaves both sites these slacks, and has this bound.
 fn is_bounded(
-    inst: &Instance,
-    path: &Path,
-    duals: &Duals,
-    slacks: [i128; 2],
-    expected: i128,
-) -> bool {
-    has_slack(inst, path, duals, 0, slacks[0])
-        && has_slack(inst, path, duals, 1, slacks[1])
-        && has_bound(inst, path, duals, expected)
-}
-
-// Whether the box of these steps has these slacks and this bound.
-fn has_bounds(
     alloc: Global,
     inst: &Instance,
-    steps: &[Decision],
+    path: &Path,
     prices: Prices<'_>,
     slacks: [i128; 2],
     expected: i128,
-) -> Result<bool, NoMemory> {
-    let duals = duals_of(alloc, prices)?;
-    let path = path(alloc, steps)?;
-    Ok(is_bounded(inst, &path, &duals, slacks, expected))
+) -> bool {
+    let Ok(duals) = duals_of(alloc, prices) else {
+        return false;
+    };
+    has_slack(inst, path, &duals, 0, slacks[0])
+        && has_slack(inst, path, &duals, 1, slacks[1])
+        && has_bound(inst, path, &duals, expected)
 }
 
-fn bounds_the_root(alloc: Global) -> Result<bool, NoMemory> {
-    let inst = example(alloc, 0, 3_000)?;
+fn bounds_the_root(alloc: Global, inst: &Instance) -> bool {
     let prices = Prices {
         q: 1,
         nu: 0,
         v: &[11_000_000, 2_000_000, 9_000_000],
-        u: &[0, 0],
+        u: [0, 0],
     };
-    has_bounds(alloc, &inst, &[], prices, [0, 1_000_000], 22_000_000)
+    let root = Path::root(alloc);
+    is_bounded(alloc, inst, &root, prices, [0, 1_000_000], 22_000_000)
 }
 
-// The count is 1 to 2: a refund of half a unit a site is paid once, and a charge twice.
+// No customer pays in a torn box, so that one millionth alone is a bound that no plan meets.
+fn bounds_a_torn_box(alloc: Global, inst: &Instance) -> bool {
+    let prices = Prices {
+        q: 0,
+        nu: 0,
+        v: &[1, 0, 0],
+        u: [0, 0],
+    };
+    match path(alloc, &[opened(1), closed(1)]) {
+        Ok(torn) => is_torn(inst, &torn) && is_bounded(alloc, inst, &torn, prices, [0, 0], 1),
+        Err(_) => false,
+    }
+}
+
 fn prices_the_count(
     alloc: Global,
+    inst: &Instance,
     nu: i128,
     slacks: [i128; 2],
     expected: i128,
-) -> Result<bool, NoMemory> {
-    let inst = example(alloc, 1, 2)?;
+) -> bool {
     let prices = Prices {
         q: 1,
         nu,
         v: &[11_000_000, 2_000_000, 9_000_000],
-        u: &[0, 0],
+        u: [0, 0],
     };
-    has_bounds(alloc, &inst, &[], prices, slacks, expected)
+    is_bounded(alloc, inst, &Path::root(alloc), prices, slacks, expected)
+}
+
+// The count is 1 to 2: a refund of half a unit a site is paid once, and a charge twice.
+fn prices_counts(alloc: Global) -> bool {
+    let Ok(inst) = example(alloc, 1, 2) else {
+        return false;
+    };
+    prices_the_count(alloc, &inst, -500_000, [-500_000, 500_000], 22_000_000)
+        && prices_the_count(alloc, &inst, 500_000, [500_000, 1_500_000], 21_000_000)
 }
 
 // Site 1 is priced at 3: its lanes cost 6,739,743,000,000 and 3,018,000,000, so that the customers
 // pay 7,000,000 and 982,000,000 above them, and its capacity takes 30,000,000 off. At site 2, which
 // is not priced, the second customer pays nothing.
-fn prices_a_capacity(alloc: Global) -> Result<bool, NoMemory> {
-    let inst = capacitated(alloc)?;
+fn prices_a_capacity(alloc: Global, inst: &Instance) -> bool {
     let prices = Prices {
         q: 1_000,
         nu: 0,
         v: &[6_739_750_000_000, 4_000_000_000],
-        u: &[3, 0],
+        u: [3, 0],
     };
     let slacks = [7_498_981_000_000, -6_738_000_000_000];
-    has_bounds(alloc, &inst, &[], prices, slacks, 5_750_000_000)
-}
-
-// No customer pays in a torn box, so that one millionth alone is a bound that no plan meets.
-fn bounds_a_torn_box(alloc: Global) -> Result<bool, NoMemory> {
-    let inst = example(alloc, 0, 3_000)?;
-    let prices = Prices {
-        q: 0,
-        nu: 0,
-        v: &[1, 0, 0],
-        u: &[0, 0],
-    };
-    has_bounds(alloc, &inst, &[opened(1), closed(1)], prices, [0, 0], 1)
-}
-
-#[test]
-fn bounds_boxes(rt: HostRuntime) -> Result<(), Fail> {
-    let alloc = rt.alloc();
-    let cases = [
-        ("the root", bounds_the_root(alloc)?),
-        (
-            "a refund",
-            prices_the_count(alloc, -500_000, [-500_000, 500_000], 22_000_000)?,
-        ),
-        (
-            "a charge",
-            prices_the_count(alloc, 500_000, [500_000, 1_500_000], 21_000_000)?,
-        ),
-        ("a capacity", prices_a_capacity(alloc)?),
-        ("a torn box", bounds_a_torn_box(alloc)?),
-    ];
-    for (name, holds) in cases {
-        assert!(rt; holds, "{name}");
-    }
-    Ok(())
+    let root = Path::root(alloc);
+    is_bounded(alloc, inst, &root, prices, slacks, 5_750_000_000)
 }
 
 #[test]
 fn closes_above_the_target_less_one(rt: HostRuntime) {
-    let cases = [
-        !closes(21_999_999, 1, Some(22_000_000)),
-        closes(22_000_000, 1, Some(22_000_000)),
-        !closes(21_999_999_000, 1_000, Some(22_000_000)),
-        closes(21_999_999_001, 1_000, Some(22_000_000)),
-        closes(0, 1, Some(0)),
-        closes(1, 0, None),
-        !closes(0, 0, Some(5)),
-        !closes(1_000, 1, None),
-    ];
-    for (k, holds) in cases.into_iter().enumerate() {
-        assert!(rt; holds, "case {k}");
-    }
+    assert!(rt; !closes(21_999_999, 1, Some(22_000_000)));
+    assert!(rt; closes(22_000_000, 1, Some(22_000_000)));
+    assert!(rt; !closes(21_999_999_000, 1_000, Some(22_000_000)));
+    assert!(rt; closes(21_999_999_001, 1_000, Some(22_000_000)));
+    assert!(rt; closes(0, 1, Some(0)));
+    assert!(rt; closes(1, 0, None));
+    assert!(rt; !closes(0, 0, Some(5)));
+    assert!(rt; !closes(1_000, 1, None));
 }
 
 const ABOVE_VALUES: i128 = 1_000_000_000_000_000_000_000_001;
 
 const ABOVE_MULTIPLIERS: u64 = 1_000_000_000_000_000_001;
 
-fn has_fault(inst: &Instance, duals: &Duals, expected: RangeFault) -> bool {
-    duals.customers() == inst.custs()
-        && duals.sites() == inst.sites()
-        && fits(duals, inst) == Err(expected)
+fn fault(inst: &Instance, duals: &Duals) -> Option<RangeFault> {
+    if duals.customers() != inst.custs() || duals.sites() != inst.sites() {
+        return None;
+    }
+    fits(duals, inst).err()
 }
 
-// The first fault of these duals of the example.
-fn is_fault(alloc: Global, prices: Prices<'_>, expected: RangeFault) -> Result<bool, NoMemory> {
-    let inst = example(alloc, 0, 3_000)?;
-    let duals = duals_of(alloc, prices)?;
-    Ok(has_fault(&inst, &duals, expected))
-}
-
-// Each of the duals has the later faults too.
-fn finds_range_fault(
+// Whether this is the first fault of duals with this value and this price.
+fn has_fault(
     alloc: Global,
+    inst: &Instance,
     q: u32,
     nu: i128,
     value: i128,
     price: u64,
     expected: RangeFault,
-) -> Result<bool, NoMemory> {
+) -> bool {
     let prices = Prices {
         q,
         nu,
         v: &[0, value, 0],
-        u: &[0, price],
+        u: [0, price],
     };
-    is_fault(alloc, prices, expected)
-}
-
-fn is_tame(inst: &Instance, duals: &Duals) -> bool {
-    duals.customers() == inst.custs() && duals.sites() == inst.sites() && tame(duals, inst)
-}
-
-// Whether the duals with this price of the second site are tame. A demand of 6,000,000 at the first
-// price of the table is just within 10^23, and at the second just above it.
-fn is_tame_at(alloc: Global, price: u64) -> Result<bool, NoMemory> {
-    let inst = capacitated(alloc)?;
-    let duals = duals(alloc, 1, 0, &[0, 0], &[0, price])?;
-    Ok(is_tame(&inst, &duals))
-}
-
-#[test]
-fn limits_of_duals(rt: HostRuntime) -> Result<(), Fail> {
-    let alloc = rt.alloc();
-    let (value, price) = (ABOVE_VALUES, ABOVE_MULTIPLIERS);
-    let cases = [
-        (
-            "scale",
-            finds_range_fault(alloc, 1_000_001, 0, value, price, RangeFault::Scale)?,
-        ),
-        (
-            "value",
-            finds_range_fault(alloc, 1_000_000, 0, value, price, RangeFault::Value)?,
-        ),
-        (
-            "price",
-            finds_range_fault(
-                alloc,
-                0,
-                value - 1,
-                1 - value,
-                price,
-                RangeFault::Multiplier,
-            )?,
-        ),
-        (
-            "capacity",
-            finds_range_fault(alloc, 0, 0, 1 - value, 1, RangeFault::NoCapacity)?,
-        ),
-        ("tame", is_tame_at(alloc, 16_666_666_666_666_666)?),
-        ("not tame", !is_tame_at(alloc, 16_666_666_666_666_667)?),
-    ];
-    for (name, holds) in cases {
-        assert!(rt; holds, "{name}");
+    match duals_of(alloc, prices) {
+        Ok(duals) => fault(inst, &duals) == Some(expected),
+        Err(_) => false,
     }
-    Ok(())
+}
+
+// Each of the first two has the later faults too.
+fn finds_the_first_fault(alloc: Global, inst: &Instance) -> bool {
+    let (value, price) = (ABOVE_VALUES, ABOVE_MULTIPLIERS);
+    let within = 1 - ABOVE_VALUES;
+    has_fault(alloc, inst, 1_000_001, 0, value, price, RangeFault::Scale)
+        && has_fault(alloc, inst, 1_000_000, 0, value, price, RangeFault::Value)
+        && has_fault(
+            alloc,
+            inst,
+            0,
+            ABOVE_VALUES - 1,
+            within,
+            price,
+            RangeFault::Multiplier,
+        )
+        && has_fault(alloc, inst, 0, 0, within, 1, RangeFault::NoCapacity)
+}
+
+fn are_tame(inst: &Instance, duals: &Duals, expected: bool) -> bool {
+    duals.customers() == inst.custs()
+        && duals.sites() == inst.sites()
+        && tame(duals, inst) == expected
+}
+
+fn is_tame(alloc: Global, inst: &Instance, price: u64, expected: bool) -> bool {
+    match duals(alloc, 1, 0, &[0, 0], &[0, price]) {
+        Ok(duals) => are_tame(inst, &duals, expected),
+        Err(_) => false,
+    }
+}
+
+// A demand of 6,000,000 at these prices is just within 10^23, and just above it.
+fn prices_capacities(alloc: Global) -> bool {
+    let Ok(inst) = capacitated(alloc) else {
+        return false;
+    };
+    prices_a_capacity(alloc, &inst)
+        && is_tame(alloc, &inst, 16_666_666_666_666_666, true)
+        && is_tame(alloc, &inst, 16_666_666_666_666_667, false)
+}
+
+fn settle(inst: &mut Instance, statuses: [SiteStatus; 2]) {
+    if inst.sites() == 2 {
+        inst.set_status(0, statuses[0]);
+        inst.set_status(1, statuses[1]);
+    }
 }
 
 fn are_states(inst: &Instance, path: &Path, states: [SiteState; 2]) -> bool {
@@ -382,13 +342,14 @@ fn are_states(inst: &Instance, path: &Path, states: [SiteState; 2]) -> bool {
 // Whether the steps settle the two sites so.
 fn has_states(
     alloc: Global,
-    statuses: [SiteStatus; 2],
-    steps: &[Decision],
+    inst: &Instance,
+    steps: [Decision; 2],
     states: [SiteState; 2],
-) -> Result<bool, NoMemory> {
-    let inst = settled(alloc, statuses)?;
-    let path = path(alloc, steps)?;
-    Ok(are_states(&inst, &path, states))
+) -> bool {
+    match path(alloc, &steps) {
+        Ok(path) => are_states(inst, &path, states),
+        Err(_) => false,
+    }
 }
 
 // Whether the path lets the site at this place serve exactly these customers.
@@ -406,122 +367,76 @@ fn are_lanes(inst: &Instance, path: &Path, torn: bool, lanes: [[bool; 3]; 2]) ->
         && leaves_lanes(inst, path, 1, lanes[1])
 }
 
-// Whether the steps tear the box, and let each site serve exactly these customers.
+// Whether the steps tear the box or not, and let each site serve exactly these customers.
 fn has_lanes(
     alloc: Global,
-    statuses: [SiteStatus; 2],
+    inst: &Instance,
     steps: &[Decision],
     torn: bool,
     lanes: [[bool; 3]; 2],
-) -> Result<bool, NoMemory> {
-    let inst = settled(alloc, statuses)?;
-    let path = path(alloc, steps)?;
-    Ok(are_lanes(&inst, &path, torn, lanes))
-}
-
-#[test]
-fn settles_sites(rt: HostRuntime) -> Result<(), Fail> {
-    let alloc = rt.alloc();
-    let free = [SiteStatus::Free, SiteStatus::Free];
-    let given = [SiteStatus::MustOpen, SiteStatus::MustClose];
-    let cases = [
-        (
-            "sites",
-            has_states(
-                alloc,
-                free,
-                &[closed(1), opened(2)],
-                [SiteState::Closed, SiteState::Opened],
-            )?,
-        ),
-        (
-            "lanes",
-            has_states(
-                alloc,
-                free,
-                &[yes(1, 3), no(2, 1)],
-                [SiteState::Opened, SiteState::Free],
-            )?,
-        ),
-        (
-            "statuses",
-            has_states(alloc, given, &[], [SiteState::Opened, SiteState::Closed])?,
-        ),
-    ];
-    for (name, holds) in cases {
-        assert!(rt; holds, "{name}");
+) -> bool {
+    match path(alloc, steps) {
+        Ok(path) => are_lanes(inst, &path, torn, lanes),
+        Err(_) => false,
     }
-    Ok(())
 }
 
-#[test]
-fn bars_lanes(rt: HostRuntime) -> Result<(), Fail> {
-    let alloc = rt.alloc();
-    let free = [SiteStatus::Free, SiteStatus::Free];
-    let given = [SiteStatus::MustOpen, SiteStatus::MustClose];
-    let first_given = [SiteStatus::MustOpen, SiteStatus::Free];
-    let second_given = [SiteStatus::Free, SiteStatus::MustClose];
-    let none = [false, false, false];
-    let all = [true, true, true];
-    let cases = [
-        (
-            "lanes",
-            has_lanes(
-                alloc,
-                free,
-                &[no(1, 1), yes(2, 3)],
-                false,
-                [[false, true, false], all],
-            )?,
-        ),
-        (
-            "a closed site",
-            has_lanes(alloc, free, &[closed(1)], false, [none, all])?,
-        ),
-        (
-            "statuses",
-            has_lanes(alloc, given, &[], false, [all, none])?,
-        ),
-        (
-            "closes a site to be open",
-            has_lanes(alloc, first_given, &[closed(1)], true, [none, none])?,
-        ),
-        (
-            "opens a site to be closed",
-            has_lanes(alloc, second_given, &[opened(2)], true, [none, none])?,
-        ),
-    ];
-    for (name, holds) in cases {
-        assert!(rt; holds, "{name}");
-    }
-    Ok(())
+const ALL: [bool; 3] = [true, true, true];
+
+const NONE: [bool; 3] = [false, false, false];
+
+fn settles_free_sites(alloc: Global, inst: &Instance) -> bool {
+    has_states(
+        alloc,
+        inst,
+        [closed(1), opened(2)],
+        [SiteState::Closed, SiteState::Opened],
+    ) && has_states(
+        alloc,
+        inst,
+        [yes(1, 3), no(2, 1)],
+        [SiteState::Opened, SiteState::Free],
+    )
 }
 
-fn is_allowed(inst: &Instance, root: &Path) -> bool {
-    inst.sites() == 1 && inst.custs() == 1 && allowed(inst, root, 0, 0)
+fn bars_lanes(alloc: Global, inst: &Instance) -> bool {
+    has_lanes(
+        alloc,
+        inst,
+        &[no(1, 1), yes(2, 3)],
+        false,
+        [[false, true, false], ALL],
+    ) && has_lanes(alloc, inst, &[closed(1)], false, [NONE, ALL])
 }
 
-// Whether the root lets the only site serve the only customer.
-fn serves(alloc: Global, cap: Option<u64>, cost: Option<u64>) -> Result<bool, NoMemory>
+// Sites that must be open and must stay closed, first both and then each with a step against it.
+fn goes_by_statuses(alloc: Global, inst: &mut Instance) -> bool {
+    settle(inst, [SiteStatus::MustOpen, SiteStatus::MustClose]);
+    let root = Path::root(alloc);
+    are_states(inst, &root, [SiteState::Opened, SiteState::Closed])
+        && are_lanes(inst, &root, false, [ALL, NONE])
+}
+
+fn tears_the_box(alloc: Global, inst: &mut Instance) -> bool {
+    settle(inst, [SiteStatus::MustOpen, SiteStatus::Free]);
+    let first = has_lanes(alloc, inst, &[closed(1)], true, [NONE, NONE]);
+    settle(inst, [SiteStatus::Free, SiteStatus::MustClose]);
+    first && has_lanes(alloc, inst, &[opened(2)], true, [NONE, NONE])
+}
+
+fn is_allowed(inst: &Instance, root: &Path, expected: bool) -> bool {
+    inst.sites() == 1 && inst.custs() == 1 && allowed(inst, root, 0, 0) == expected
+}
+
+// Whether the root lets the only site serve the only customer, or doesn't.
+fn serves(alloc: Global, cap: Option<u64>, cost: Option<u64>, expected: bool) -> bool
     requires cap { IsSmall cap }
     requires cost { IsSmall cost }
 {
-    let inst = single(alloc, cap, cost)?;
-    Ok(is_allowed(&inst, &Path::root(alloc)))
-}
-
-#[test]
-fn bars_demands_above_the_capacity(rt: HostRuntime) -> Result<(), Fail> {
-    let alloc = rt.alloc();
-    let cases = [
-        ("equal", serves(alloc, Some(6_000_000), Some(5))?),
-        ("above", !serves(alloc, Some(5_999_999), Some(5))?),
-        ("no lane", !serves(alloc, None, None)?),
-    ];
-    for (name, holds) in cases {
-        assert!(rt; holds, "{name}");
+    match single(alloc, cap, cost) {
+        Ok(inst) => is_allowed(&inst, &Path::root(alloc), expected),
+        Err(_) => false,
     }
-    Ok(())
 }
 
 // Whether the path has these two steps, read at once and one by one.
@@ -532,15 +447,27 @@ fn has_steps(path: &Path, first: Decision, second: Decision) -> bool {
         && path.as_slice() == [first, second].as_slice()
 }
 
-fn extends_a_path(alloc: Global) -> Result<bool, NoMemory> {
-    let path = path(alloc, &[yes(2, 3)])?;
-    let longer = path.with(closed(1))?;
-    Ok(path.steps() == 1 && has_steps(&longer, yes(2, 3), closed(1)))
+fn is_extended(path: &Path) -> bool {
+    match path.with(closed(1)) {
+        Ok(longer) => path.steps() == 1 && has_steps(&longer, yes(2, 3), closed(1)),
+        Err(_) => false,
+    }
 }
 
-fn takes_the_last_step(alloc: Global) -> Result<bool, NoMemory> {
-    let mut path = path(alloc, &[opened(1), no(2, 3), closed(2)])?;
-    Ok(0 < path.steps() && path.pop() == closed(2) && has_steps(&path, opened(1), no(2, 3)))
+fn extends_a_path(alloc: Global) -> bool {
+    match path(alloc, &[yes(2, 3)]) {
+        Ok(path) => is_extended(&path),
+        Err(_) => false,
+    }
+}
+
+fn takes_the_last_step(alloc: Global) -> bool {
+    match path(alloc, &[opened(1), no(2, 3), closed(2)]) {
+        Ok(mut path) => {
+            0 < path.steps() && path.pop() == closed(2) && has_steps(&path, opened(1), no(2, 3))
+        }
+        Err(_) => false,
+    }
 }
 
 // Whether these are the duals of three customers and two sites at scale 7, all 0 but this one.
@@ -555,36 +482,59 @@ fn has_second(duals: &Duals, value: i128) -> bool {
         && duals.nu() == 0
 }
 
-fn sets_second(mut duals: Duals, value: i128) -> bool {
-    if !has_second(&duals, 0) || duals.customers() < 2 {
+fn sets_second(duals: &mut Duals, value: i128) -> bool {
+    if !has_second(duals, 0) || duals.customers() < 2 {
         return false;
     }
     duals.set_v(1, value);
-    has_second(&duals, value)
+    has_second(duals, value)
 }
 
-fn replaces_a_dual(alloc: Global) -> Result<bool, NoMemory> {
-    let inst = example(alloc, 0, 3_000)?;
-    Ok(sets_second(Duals::zeros(alloc, &inst, 7)?, -4))
+fn replaces_a_dual(alloc: Global, inst: &Instance) -> bool {
+    match Duals::zeros(alloc, inst, 7) {
+        Ok(mut duals) => sets_second(&mut duals, -4),
+        Err(_) => false,
+    }
 }
 
-fn copies_duals(alloc: Global) -> Result<bool, NoMemory> {
-    let duals = duals(alloc, 7, 0, &[0, 5, 0], &[0, 0])?;
-    let copy = duals.copied()?;
-    Ok(has_second(&copy, 5))
+fn is_copied(duals: &Duals, value: i128) -> bool {
+    match duals.copied() {
+        Ok(copy) => has_second(&copy, value),
+        Err(_) => false,
+    }
+}
+
+fn copies_duals(alloc: Global) -> bool {
+    match duals(alloc, 7, 0, &[0, 5, 0], &[0, 0]) {
+        Ok(duals) => is_copied(&duals, 5),
+        Err(_) => false,
+    }
 }
 
 #[test]
-fn changes_paths_and_duals(rt: HostRuntime) -> Result<(), Fail> {
+fn paths_duals_and_capacities(rt: HostRuntime) {
     let alloc = rt.alloc();
-    let cases = [
-        ("extends a path", extends_a_path(alloc)?),
-        ("takes the last step", takes_the_last_step(alloc)?),
-        ("replaces a dual", replaces_a_dual(alloc)?),
-        ("copies duals", copies_duals(alloc)?),
-    ];
-    for (name, holds) in cases {
-        assert!(rt; holds, "{name}");
-    }
+    assert!(rt; extends_a_path(alloc));
+    assert!(rt; takes_the_last_step(alloc));
+    assert!(rt; copies_duals(alloc));
+    assert!(rt; serves(alloc, Some(6_000_000), Some(5), true));
+    assert!(rt; serves(alloc, Some(5_999_999), Some(5), false));
+    assert!(rt; serves(alloc, None, None, false));
+    assert!(rt; prices_counts(alloc));
+    assert!(rt; prices_capacities(alloc));
+}
+
+#[test]
+fn boxes_of_the_example(rt: HostRuntime) -> Result<(), Fail> {
+    let alloc = rt.alloc();
+    let mut inst = example(alloc, 0, 3_000)?;
+    assert!(rt; bounds_the_root(alloc, &inst));
+    assert!(rt; bounds_a_torn_box(alloc, &inst));
+    assert!(rt; finds_the_first_fault(alloc, &inst));
+    assert!(rt; replaces_a_dual(alloc, &inst));
+    assert!(rt; settles_free_sites(alloc, &inst));
+    assert!(rt; bars_lanes(alloc, &inst));
+    assert!(rt; goes_by_statuses(alloc, &mut inst));
+    assert!(rt; tears_the_box(alloc, &mut inst));
     Ok(())
 }
