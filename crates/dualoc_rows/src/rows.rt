@@ -264,7 +264,7 @@ fn survives_each_failing_read(rt: HostRuntime) -> Result<(), Fail> {
     let file = TWO_SITES.as_bytes();
     for width in WIDTHS {
         // The last read finds the end of the file.
-        let reads = calls_for(file.len(), width) + 1;
+        let reads = calls_for(file.len(), width).saturating_add(1);
         for call in 1..60 {
             let found = ran(rt.alloc(), &SHORT, file, width, call, 0)?;
             assert!(rt;
