@@ -1,6 +1,7 @@
 //! How the order of an instance is made.
 ghost use Rattle.std.specs.Prelude.{◌≡◌, ◌<◌, ◌≤◌, ◌*◌, ◌++◌, length, IfOk};
-ghost use Rattle.location_terms.specs.Instance.{IsValid, site_ids};
+ghost use Rattle.location_terms.specs.Instance.{site_ids};
+ghost use Rattle.location_terms.specs.declared.limits.TheConstants.{MAX_SITES, MAX_CUSTOMERS};
 ghost use Rattle.lane_order.specs.Building.{first_lanes, IsAdded, AreBlocks};
 
 use crate::order::{Block, PlacedLane};
@@ -33,16 +34,21 @@ pub(crate) fn sorted_lanes(
     Ok((lanes, blocks))
 }
 
-// Room for so many lanes is taken at once.
+// How many lanes there are.
 fn lane_count(inst: &Instance) -> usize
-    requires { IsValid inst.now }
-    ensures { result ≤ length inst.now.sites * length inst.now.customers }
+    ensures { result ≤ MAX_SITES * MAX_CUSTOMERS }
 {
     let mut count = 0;
     for site in 0..inst.sites() {
-        count += inst.lanes(site).iter().flatten().count();
+        count += row_count(inst.lanes(site));
     }
     count
+}
+
+fn row_count(lanes: &[Option<u64>]) -> usize
+    ensures { result ≤ length lanes.now }
+{
+    lanes.iter().filter(|lane| lane.is_some()).count()
 }
 
 // The lanes to the customer go behind those that are there.
