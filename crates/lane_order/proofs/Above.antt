@@ -1,5 +1,5 @@
 -- The first lane with a greater cost is the one at the place where the greater costs begin.
-use Rattle.std.proofs.Common.{◌≡◌, ℕ, ◌<◌, ◌≤◌, Bool, true, false, inl, inr, leb, nat_lt, List, map, length, Option, None, Some, find, get_or, slice_get, refl, sym, ap, ◌∙◌, arith}
+use Rattle.std.proofs.Common.{◌≡◌, ℕ, ◌<◌, ◌≤◌, Bool, true, false, inl, inr, leb, nat_lt, List, map, length, None, Some, find, get_or, slice_get, refl, sym, ap, ◌∙◌, arith}
 use Rattle.std.proofs.lemmas.Bool.{cases_lt, le-ltb, lt-ltb, leb-true, leb-false}
 use Rattle.std.proofs.lemmas.List.{length-map, get_or-map}
 use Rattle.std.proofs.lemmas.List.Recursion.{found_at, found_nowhere}
@@ -29,12 +29,12 @@ module _ (ids : List ℕ) (lanes : List PlacedLane) (cost rank : ℕ) (cheap : A
       let same : length seen ≡ length lanes = length-map lanes (named ids) in
       elim (cases_lt rank (length lanes)) [
         | inl within ↦
-          slice_get-get_or seen rank (named ids none_at) (omega (arith, same, within))
-          ∙ sym (found_at (λ ys. find costs_more ys) costs_more Some None refl (λ _ _. refl) seen rank (named ids none_at) (omega (arith, same, within))
-          (λ k below. fails k below (omega (arith, below, within)))
-          (ap costs_more (at rank within) ∙ lt-ltb cost _ (leb-false _ _ (dear rank none_at (omega arith) within))))
+            slice_get-get_or seen rank (named ids none_at) (omega (arith, same, within))
+            ∙ sym (found_at (λ ys. find costs_more ys) costs_more Some None refl (λ _ _. refl) seen rank (named ids none_at) (omega (arith, same, within))
+            (λ k below. fails k below (omega (arith, below, within)))
+            (ap costs_more (at rank within) ∙ lt-ltb cost _ (leb-false _ _ (dear rank none_at (omega arith) within))))
         | inr past ↦
-          slice_get_past seen rank (omega (arith, same, past))
-          ∙ sym (found_nowhere (λ ys. find costs_more ys) costs_more Some None refl (λ _ _. refl) seen (named ids none_at)
-          (λ k below. fails k (omega (arith, same, past, below)) (omega (arith, same, below))))
+            slice_get_past seen rank (omega (arith, same, past))
+            ∙ sym (found_nowhere (λ ys. find costs_more ys) costs_more Some None refl (λ _ _. refl) seen (named ids none_at)
+            (λ k below. fails k (omega (arith, same, past, below)) (omega (arith, same, below))))
       ]

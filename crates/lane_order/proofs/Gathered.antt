@@ -1,7 +1,7 @@
 -- The lanes to a customer as they are gathered, site after site.
 use Rattle.std.proofs.Common.{◌≡◌, ℕ, suc, zero, ◌+◌, ◌<◌, ◌∷◌, ◌++◌, Bool, inl, inr, List, [], length, take, All, AllPairs, Contains, Option, None, Some, get_or, eqb, refl, sym, ap, ◌∙◌, subst, arith}
 use Rattle.std.proofs.lemmas.Bool.{ne_eqb, cases_eq}
-use Rattle.std.proofs.lemmas.List.{append-nil, append_assoc, take_more, length-map, get_or-map}
+use Rattle.std.proofs.lemmas.List.{append-nil, append_assoc, take_more}
 use Rattle.std.proofs.lemmas.List.Elements.{All-nil, All-cons, All-append, Contains-append_left, Contains-push}
 use Rattle.std.proofs.lemmas.List.Quantifiers.{all_pairs_push}
 use Rattle.std.proofs.lemmas.Map.Keys.{IsDistinct-from_apart}
@@ -58,12 +58,12 @@ first_lanes_have I j zero i cost below is = absurd (omega arith)
 first_lanes_have I j (suc n) i cost below is =
     elim (cases_eq i n) [
       | inl same ↦
-        subst (λ k. Contains (first_lanes I j n ++ placed (lane I (site_at I n).id (customer_at I j).id) n) (record { cost = cost; site = k })) (sym same)
-        (subst (λ o. Contains (first_lanes I j n ++ placed o n) (record { cost = cost; site = n })) (sym (subst (λ k. lane I (site_at I k).id (customer_at I j).id ≡ Some cost) same is))
-        (Contains-push (first_lanes I j n) (record { cost = cost; site = n })))
+          subst (λ k. Contains (first_lanes I j n ++ placed (lane I (site_at I n).id (customer_at I j).id) n) (record { cost = cost; site = k })) (sym same)
+          (subst (λ o. Contains (first_lanes I j n ++ placed o n) (record { cost = cost; site = n })) (sym (subst (λ k. lane I (site_at I k).id (customer_at I j).id ≡ Some cost) same is))
+          (Contains-push (first_lanes I j n) (record { cost = cost; site = n })))
       | inr other ↦
-        Contains-append_left (first_lanes I j n) (placed (lane I (site_at I n).id (customer_at I j).id) n) (record { cost = cost; site = i })
-        (first_lanes_have I j n i cost (omega (arith, other)) is)
+          Contains-append_left (first_lanes I j n) (placed (lane I (site_at I n).id (customer_at I j).id) n) (record { cost = cost; site = i })
+          (first_lanes_have I j n i cost (omega (arith, other)) is)
     ]
 
 -- they come from sites at rising places

@@ -1,3 +1,4 @@
 pub mod Gathered
 pub mod Ranked
 pub mod Above
+pub mod Blocks

@@ -1,17 +1,16 @@
 -- Lanes that are sorted by cost and place are the lanes to a customer in order, by the ids of their sites.
-use Rattle.std.proofs.Common.{◌≡◌, ◌⊎◌, ℕ, ◌<◌, ◌≤◌, Bool, false, inl, inr, List, map, length, All, AllPairs, Contains, Some, get_or, slice_index, refl, sym, ap, subst, ◌∙◌, arith}
+use Rattle.std.proofs.Common.{◌≡◌, ◌⊎◌, ℕ, ◌<◌, ◌≤◌, false, inl, inr, List, map, length, All, AllPairs, Contains, Some, get_or, slice_index, is_some, sym, ap, subst, ◌∙◌, arith}
 use Rattle.std.proofs.lemmas.Bool.{cases_order, eqb-false, false≢true}
 use Rattle.std.proofs.lemmas.Cmp.{nat_eq_equiv}
 use Rattle.std.proofs.lemmas.List.{length-map, get_or-map, get_or_default}
-use Rattle.std.proofs.lemmas.List.Elements.{All-contains, Contains-get_or}
 use Rattle.std.proofs.lemmas.List.Kept.{AllPairs-from_increasing}
 use Rattle.std.proofs.lemmas.List.Sorted.{ranks_by, sorted_far, All-permutation, Contains-permutation}
 use Rattle.std.proofs.lemmas.Map.Keys.{apart_from_distinct, IsDistinct-IsPermutation}
 use Rattle.std.specs.Cmp.{nat_cmp_is}
 use Rattle.std.specs.List.{IsDistinct}
-use Rattle.std.specs.List.Sorted.{IsSorted, IsStrictlyIncreasing, IsNonDecreasingBy}
+use Rattle.std.specs.List.Sorted.{IsStrictlyIncreasing, IsNonDecreasingBy}
 use Rattle.std.specs.Ordering.{nat_cmp, ordering_then, is_lt}
-use Rattle.std.specs.declared.cmp.Ordering.TheVariants.{Less, Equal, Greater}
+use Rattle.std.specs.declared.cmp.Ordering.TheVariants.{Less, Equal}
 use Rattle.location_terms.specs.Instance.{Instance, IsValid, site_at, customer_at, lane, site_ids}
 use Rattle.location_terms.proofs.Places.{length-site_ids, slice_index-site_ids}
 use Rattle.location_terms.proofs.Table.{pair_cmp-total}
@@ -26,21 +25,21 @@ after : (p q r s : ℕ) → is_lt (ordering_then (nat_cmp q p) (nat_cmp s r)) �
 after p q r s not_less apart =
     elim (cases_order p q) [
       | inl same ↦
-        elim (cases_order r s) [
-          | inl one ↦ absurd (apart one)
-          | inr other ↦ elim other [
-            | inl less ↦ inr (same, less)
-            | inr more ↦
-              let first : nat_cmp q p ≡ Equal = sym (nat_cmp_is q p Equal (sym same)) in
-              let second : nat_cmp s r ≡ Less = sym (nat_cmp_is s r Less more) in
-              absurd (false≢true (sym not_less ∙ (λ k. is_lt (ordering_then (first k) (second k)))))
+          elim (cases_order r s) [
+            | inl one ↦ absurd (apart one)
+            | inr other ↦ elim other [
+              | inl less ↦ inr (same, less)
+              | inr more ↦
+                  let first : nat_cmp q p ≡ Equal = sym (nat_cmp_is q p Equal (sym same)) in
+                  let second : nat_cmp s r ≡ Less = sym (nat_cmp_is s r Less more) in
+                  absurd (false≢true (sym not_less ∙ (λ k. is_lt (ordering_then (first k) (second k)))))
+            ]
           ]
-        ]
       | inr other ↦ elim other [
         | inl less ↦ inl less
         | inr more ↦
-          let first : nat_cmp q p ≡ Less = sym (nat_cmp_is q p Less more) in
-          absurd (false≢true (sym not_less ∙ ap (λ o. is_lt (ordering_then o (nat_cmp s r))) first))
+            let first : nat_cmp q p ≡ Less = sym (nat_cmp_is q p Less more) in
+            absurd (false≢true (sym not_less ∙ ap (λ o. is_lt (ordering_then o (nat_cmp s r))) first))
       ]
     ]
 
@@ -100,6 +99,17 @@ module _ (I : Instance) (j : ℕ) (lanes : List PlacedLane) (of : AreSortedLanes
         let id : (site_at I l.site).id ≡ s = sym (at_place l (lanes_known k.0 no_lane inside)) ∙ ap (λ (p : ℕ × ℕ). p.1) is in
         subst (λ t. lane I t (customer_at I j).id ≡ Some l.cost) id (lanes_are k.0 no_lane inside).is ∙ ap (λ (p : ℕ × ℕ). Some p.0) is
 
-    found : IsValid I → (cost s : ℕ) → lane I s (customer_at I j).id ≡ Some cost → Contains (map (named (site_ids I)) lanes) (cost, s)
-    found valid cost s is =
-        ?
+    held : (cost s : ℕ) → lane I s (customer_at I j).id ≡ Some cost → Contains (site_ids I) s → Contains (map (named (site_ids I)) lanes) (cost, s)
+    held cost s is k =
+        let place : k.0 < length I.sites = omega (arith, k.1, length-site_ids I) in
+        let id : slice_index (site_ids I) k.0 ≡ s = get_or_default (site_ids I) k.0 0 s k.1 ∙ k.2 in
+        let l : PlacedLane = record { cost = cost; site = k.0 } in
+        let there : lane I (site_at I k.0).id (customer_at I j).id ≡ Some cost = ap (λ t. lane I t (customer_at I j).id) (sym (slice_index-site_ids I k.0 place) ∙ id) ∙ is in
+        let m = Contains-permutation (first_lanes I j (length I.sites)) lanes l of.all (first_lanes_have I j (length I.sites) k.0 cost place there) in
+        (m.0, omega (arith, m.1, length-map lanes (named (site_ids I))), get_or-map (named (site_ids I)) lanes m.0 l (cost, s) m.1 ∙ ap (named (site_ids I)) m.2 ∙ (λ n. (cost, id n)))
+
+    pub AreLanesTo-sorted : IsValid I → AreLanesTo I (customer_at I j).id (map (named (site_ids I)) lanes)
+    AreLanesTo-sorted valid = record {
+      ascending = named_ascend;
+      complete = λ cost s. (listed cost s, λ is. held cost s is (valid.lanes_known s (customer_at I j).id (ap is_some is)).0);
+    }

@@ -1,6 +1,6 @@
 //! How the order of an instance is made.
 ghost use Rattle.std.specs.Prelude.{◌≡◌, ◌<◌, ◌≤◌, ◌*◌, ◌++◌, length, IfOk};
-ghost use Rattle.location_terms.specs.Instance.{site_ids};
+ghost use Rattle.location_terms.specs.Instance.{IsValid, site_ids};
 ghost use Rattle.location_terms.specs.declared.limits.TheConstants.{MAX_SITES, MAX_CUSTOMERS};
 ghost use Rattle.lane_order.specs.Building.{first_lanes, IsAdded, AreBlocks};
 
@@ -10,7 +10,8 @@ use std::alloc::Global;
 
 /// The ids of the sites, by place.
 pub(crate) fn site_ids(alloc: Global, inst: &Instance) -> Result<Vec<SiteId>, NoMemory>
-    ensures { IfOk result (λ ids. ids.items ≡ site_ids inst.now) }
+    ensures exact { IfOk result (λ ids. ids.items ≡ site_ids inst.now) }
+    ensures valid { IsValid inst.now }
 {
     let mut ids = Vec::with_capacity(alloc, inst.sites())?;
     for site in 0..inst.sites() {

@@ -13,9 +13,9 @@ loop-site-preserved c =
     let old = c.args.lanes.now.items in
     elim c.match-lane.branch [
       | in-Some+in_ok-push w ↦
-        more_lanes I c.args.cust c.loop-site.site old c.loop-site.lanes.items c.match-lane.lanes.items (Some w.in-Some.cost) (sym w.in-Some.is ∙ c.lane.ensures.exact) c.loop-site.invariant
-        (ap (λ v. v.items) w.lanes-is ∙ w.in_ok-push.ensures.items)
+          more_lanes I c.args.cust c.loop-site.site old c.loop-site.lanes.items c.match-lane.lanes.items (Some w.in-Some.cost) (sym w.in-Some.is ∙ c.lane.ensures.exact) c.loop-site.invariant
+          (ap (λ v. v.items) w.lanes-is ∙ w.in_ok-push.ensures.items)
       | in_default w ↦
-        more_lanes I c.args.cust c.loop-site.site old c.loop-site.lanes.items c.match-lane.lanes.items None (sym w.in_default.is ∙ c.lane.ensures.exact) c.loop-site.invariant
-        (ap (λ v. v.items) w.lanes-is ∙ sym (append-nil c.loop-site.lanes.items))
+          more_lanes I c.args.cust c.loop-site.site old c.loop-site.lanes.items c.match-lane.lanes.items None (sym w.in_default.is ∙ c.lane.ensures.exact) c.loop-site.invariant
+          (ap (λ v. v.items) w.lanes-is ∙ sym (append-nil c.loop-site.lanes.items))
     ]

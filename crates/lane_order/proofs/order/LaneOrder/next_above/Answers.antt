@@ -1,6 +1,5 @@
-use Rattle.std.proofs.Common.{◌≡◌, ◌≤◌, ℕ, List, leb, find, nat_lt, slice_get, sym, ap, ◌∙◌, rules, arith}
+use Rattle.std.proofs.Common.{ℕ, List, leb, find, nat_lt, slice_get, sym, ap, ◌∙◌, rules}
 use Rattle.std.proofs.lemmas.List.Sorted.{IsPartitionPoint-from_clause, IsPartitionedBy-leb}
-use Rattle.lane_order.specs.Order.{lanes_to}
 use Rattle.lane_order.proofs.Above.{rank_is}
 use Rattle.lane_order.proofs.order.LaneOrder.next_above.Goals as goal
 
