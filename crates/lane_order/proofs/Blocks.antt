@@ -1,7 +1,8 @@
 -- The blocks of the customers while lanes are added behind them, and what they are in the end.
-use Rattle.std.proofs.Common.{◌≡◌, ℕ, ◌+◌, ◌-◌, ◌<◌, ◌≤◌, inl, inr, ◌∷◌, ◌++◌, List, [], map, length, take, drop, get_or, sym, ap, subst, ◌∙◌, arith}
+use Rattle.std.proofs.Common.{◌≡◌, ℕ, ◌+◌, ◌-◌, ◌<◌, ◌≤◌, inl, inr, ◌∷◌, ◌++◌, List, [], map, length, take, drop, AllPairs, get_or, sym, ap, subst, ◌∙◌, arith}
 use Rattle.std.proofs.lemmas.Bool.{cases_eq}
 use Rattle.std.proofs.lemmas.List.{length-map, length-take, length-drop, get_or-map, get_or_push, get_or_append_left, take-append-drop, take-append-le, drop-append-le}
+use Rattle.std.proofs.lemmas.List.Quantifiers.{all_pairs_push}
 use Rattle.location_terms.specs.Instance.{Instance, IsValid, customer_at, site_ids}
 use Rattle.location_terms.proofs.Places.{length-site_ids}
 use Rattle.lane_order.specs.declared.order.PlacedLane.{PlacedLane}
@@ -43,6 +44,13 @@ one_more_block I j old new blocks more b count each added is k d below =
           subst (IsBlockOf I k new) (sym (get_or_append_left blocks (b ∷ []) d k (omega (arith, early, count)))) (block_kept I k old new (get_or blocks k d) added.kept (each k d early))
     ])
 
+pub one_more_behind : (I : Instance) (j : ℕ) (old new : List PlacedLane) (blocks more : List Block) (b : Block) → length blocks ≡ j
+    → ((k : ℕ) (d : Block) → k < j → IsBlockOf I k old (get_or blocks k d)) → IsAdded I j old new b → more ≡ blocks ++ b ∷ []
+    → AllPairs (λ a b. a.end ≤ b.start) blocks → AllPairs (λ a b. a.end ≤ b.start) more
+one_more_behind I j old new blocks more b count each added is before =
+    subst (AllPairs (λ (a b : Block). a.end ≤ b.start)) (sym is)
+    (all_pairs_push (λ (a b : Block). a.end ≤ b.start) blocks b before (λ k d below. let block = each k d (omega (arith, below, count)) in omega (arith, block.within, added.behind)))
+
 -- blocks of an instance's customers, with the ids of its sites, are its order
 module _ (a : Inside) (I : Instance) (ids : a.site_ids.items ≡ site_ids I) (of : AreBlocks I a.lanes.items a.blocks.items) where
   pub IsStored-blocks : IsStored a
@@ -56,6 +64,7 @@ module _ (a : Inside) (I : Instance) (ids : a.site_ids.items ≡ site_ids I) (of
           known = λ m e in_part. omega (arith, lanes_known I k (part a.lanes.items b) block.sorted m e in_part, ap length ids, length-site_ids I);
           rising = costs_rise I k (part a.lanes.items b) block.sorted;
         };
+    apart = λ i k d before within. inl (of.behind i k d before within);
   }
 
   pub IsOrderOf-blocks : IsValid I → IsOrderOf (stored_order a) I

@@ -2,3 +2,4 @@ pub mod Gathered
 pub mod Ranked
 pub mod Above
 pub mod Blocks
+pub mod Walks

@@ -1,5 +1,5 @@
 -- The lanes while an order is made, customer after customer.
-use Rattle.std.specs.Prelude.{◌≡◌, ℕ, zero, suc, ◌<◌, ◌≤◌, List, [], ◌∷◌, ◌++◌, length, take, Option, None, Some, slice_index_or, IsPermutation}
+use Rattle.std.specs.Prelude.{◌≡◌, ℕ, zero, suc, ◌<◌, ◌≤◌, List, AllPairs, [], ◌∷◌, ◌++◌, length, take, Option, None, Some, slice_index_or, IsPermutation}
 use Rattle.std.specs.List.Sorted.{IsSorted}
 use Rattle.std.specs.Ordering.{nat_cmp, ordering_then}
 use Rattle.std.specs.declared.cmp.Ordering.{Ordering}
@@ -32,12 +32,14 @@ pub record IsBlockOf (I : Instance) (j : ℕ) (lanes : List PlacedLane) (b : Blo
   pub within : b.end ≤ length lanes
   pub sorted : AreSortedLanes I j (part lanes b)
 
--- the block has the lanes to the customer at place j, and the lanes that were there stay
+-- the block has the lanes to the customer at place j, behind those that were there, which stay
 pub record IsAdded (I : Instance) (j : ℕ) (old new : List PlacedLane) (b : Block) : Type 0 where
   pub kept : take (length old) new ≡ old
+  pub behind : length old ≤ b.start
   pub added : IsBlockOf I j new b
 
--- a block for each customer
+-- a block for each customer, one behind the other
 pub record AreBlocks (I : Instance) (lanes : List PlacedLane) (blocks : List Block) : Type 0 where
   pub count : length blocks ≡ length I.customers
   pub each : (j : ℕ) (d : Block) → j < length I.customers → IsBlockOf I j lanes (slice_index_or blocks j d)
+  pub behind : AllPairs (λ a b. a.end ≤ b.start) blocks

@@ -1,5 +1,5 @@
 -- How an order is stored: all lanes in one list, and for each customer a block of it.
-use Rattle.std.specs.Prelude.{ℕ, ◌<◌, ◌≤◌, List, map, length, All, slice_range}
+use Rattle.std.specs.Prelude.{ℕ, ◌⊎◌, ◌<◌, ◌≤◌, List, map, length, All, AllPairs, slice_range}
 use Rattle.std.specs.List.Sorted.{IsNonDecreasingBy}
 use Rattle.lane_order.specs.Order.{Order}
 use Rattle.lane_order.specs.Placed.{named}
@@ -21,5 +21,10 @@ pub record IsBlock (sites : ℕ) (lanes : List PlacedLane) (b : Block) : Type 0 
   pub known : All (λ lane. lane.site < sites) (part lanes b)
   pub rising : IsNonDecreasingBy (λ lane. lane.cost) (part lanes b)
 
+-- blocks without a lane in both
+abbrev pub AreApart : Block → Block → Type 0
+AreApart a b = (a.end ≤ b.start) ⊎ (b.end ≤ a.start)
+
 pub record IsStored (a : Inside) : Type 0 where
   pub blocks : All (IsBlock (length a.site_ids.items) a.lanes.items) a.blocks.items
+  pub apart : AllPairs AreApart a.blocks.items
