@@ -3,13 +3,6 @@ use instance_store::{CustId, CustRow, LaneRow, SiteRow};
 use std::alloc::Global;
 use std::test::Fail;
 
-fn customer(id: u32) -> CustRow {
-    CustRow {
-        id: CustId::new(id),
-        demand: 1_000_000,
-    }
-}
-
 // Two sites and three customers, in millionths, and a lane for each pair.
 fn plain(alloc: Global) -> Result<Instance, Fail> {
     let near = vec![in alloc; Some(1_000_000), Some(2_000_000), Some(9_000_000)]?;
@@ -28,15 +21,28 @@ fn plain(alloc: Global) -> Result<Instance, Fail> {
             lanes: LaneRow::from_vec(far)
         },
     ]?;
-    let custs = vec![in alloc; customer(1), customer(2), customer(3)]?;
+    let custs = vec![in alloc;
+        CustRow {
+            id: CustId::new(1),
+            demand: 1_000_000
+        },
+        CustRow {
+            id: CustId::new(2),
+            demand: 1_000_000
+        },
+        CustRow {
+            id: CustId::new(3),
+            demand: 1_000_000
+        },
+    ]?;
     Ok(Instance::from_parts(alloc, 0, 2, 3, 4, custs, sites)?)
 }
 
-// Three sites, of which some cost the same, and a customer without lanes.
+// Three sites, two of which cost the first customer the same. The second one has a single lane.
 fn tied(alloc: Global) -> Result<Instance, Fail> {
-    let low = vec![in alloc; Some(4), Some(7), None]?;
-    let middle = vec![in alloc; None, Some(2), None]?;
-    let high = vec![in alloc; Some(4), Some(2), None]?;
+    let low = vec![in alloc; Some(7), None]?;
+    let middle = vec![in alloc; Some(2), Some(4)]?;
+    let high = vec![in alloc; Some(2), None]?;
     let sites = vec![in alloc;
         SiteRow {
             id: SiteId::new(3),
@@ -57,7 +63,16 @@ fn tied(alloc: Global) -> Result<Instance, Fail> {
             lanes: LaneRow::from_vec(high)
         },
     ]?;
-    let custs = vec![in alloc; customer(1), customer(2), customer(4)]?;
+    let custs = vec![in alloc;
+        CustRow {
+            id: CustId::new(2),
+            demand: 1
+        },
+        CustRow {
+            id: CustId::new(4),
+            demand: 1
+        },
+    ]?;
     Ok(Instance::from_parts(alloc, 0, 3, 10, 5, custs, sites)?)
 }
 
@@ -117,10 +132,9 @@ fn orders_an_instance_with_all_lanes(rt: HostRuntime) -> Result<(), Fail> {
 fn orders_ties_by_id(rt: HostRuntime) -> Result<(), Fail> {
     let inst = tied(rt.alloc())?;
     let order = LaneOrder::of(rt.alloc(), &inst)?;
-    assert!(rt; has_lanes(&order, 0, [Some((4, 3)), Some((4, 9)), None, None]));
-    assert!(rt; has_lanes(&order, 1, [Some((2, 5)), Some((2, 9)), Some((7, 3)), None]));
-    assert!(rt; has_lanes(&order, 2, [None, None, None, None]));
-    assert!(rt; has_place(&order, 0, 1, 4, 2));
+    assert!(rt; has_lanes(&order, 0, [Some((2, 5)), Some((2, 9)), Some((7, 3)), None]));
+    assert!(rt; has_lanes(&order, 1, [Some((4, 5)), None, None, None]));
+    assert!(rt; has_place(&order, 0, 1, 2, 2));
     Ok(())
 }
 
@@ -128,10 +142,9 @@ fn orders_ties_by_id(rt: HostRuntime) -> Result<(), Fail> {
 fn finds_the_next_cost(rt: HostRuntime) -> Result<(), Fail> {
     let inst = tied(rt.alloc())?;
     let order = LaneOrder::of(rt.alloc(), &inst)?;
-    assert!(rt; has_next(&order, 1, 0, Some((2, 5))) && has_next(&order, 1, 1, Some((2, 5))));
-    assert!(rt; has_next(&order, 1, 2, Some((7, 3))) && has_next(&order, 1, 6, Some((7, 3))));
-    assert!(rt; has_next(&order, 1, 7, None) && has_next(&order, 1, u64::MAX, None));
-    assert!(rt; has_next(&order, 0, 3, Some((4, 3))) && has_next(&order, 0, 4, None));
-    assert!(rt; has_next(&order, 2, 0, None));
+    assert!(rt; has_next(&order, 0, 0, Some((2, 5))) && has_next(&order, 0, 1, Some((2, 5))));
+    assert!(rt; has_next(&order, 0, 2, Some((7, 3))) && has_next(&order, 0, 6, Some((7, 3))));
+    assert!(rt; has_next(&order, 0, 7, None) && has_next(&order, 0, u64::MAX, None));
+    assert!(rt; has_next(&order, 1, 3, Some((4, 5))) && has_next(&order, 1, 4, None));
     Ok(())
 }
