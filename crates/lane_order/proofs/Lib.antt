@@ -3,3 +3,4 @@ pub mod Ranked
 pub mod Above
 pub mod Blocks
 pub mod Walks
+pub mod Counts

@@ -31,8 +31,10 @@ pub record IsOrderOf (order : Order) (I : Instance) : Type 0 where
 abbrev pub lane_at : Order → ℕ → ℕ → Option (ℕ × ℕ)
 lane_at order j rank = slice_get (lanes_to order j) rank
 
--- The first lane to the customer at a place that costs more. In an order of an instance every lane before it costs at most as
--- much, and no lane that costs more comes before it. What an ascent needs beside it: the lanes that cost at most a level are
--- the first so many of the customer's lanes, and the first place in that list with a greater cost is their number.
+-- the first lane to the customer at a place that costs more
+-- Laws for the crates above, in proofs/Walks and proofs/Counts: in an order of an instance it is the least lane that costs more,
+-- and where there is none every lane costs at most as much (`next_is_lane`, `next_is_first`, `none_above`); the lanes that cost
+-- at most as much are the first so many of the customer's (`first_ones_cost_less`); the lanes by place are those of the instance
+-- (`placed_is_lane`, `lane_is_placed`).
 abbrev pub next_above : Order → ℕ → ℕ → Option (ℕ × ℕ)
 next_above order j cost = find (λ lane. nat_lt cost lane.0) (lanes_to order j)
