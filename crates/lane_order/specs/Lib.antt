@@ -1,0 +1,4 @@
+pub mod Order
+pub mod Placed
+pub mod Stored
+pub mod Building

@@ -1,0 +1,13 @@
+//! The lanes of an instance in order: for each customer the lanes from the cheapest on, as an ascent
+//! of duals walks them.
+#![tactic(auto)]
+
+mod build;
+mod order;
+
+pub use instance_store::{Instance, NoMemory};
+pub use location_terms::SiteId;
+pub use order::{LaneOrder, PlacedLane};
+
+#[cfg(test)]
+mod tests;

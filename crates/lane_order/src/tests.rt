@@ -1,0 +1,150 @@
+use super::*;
+use instance_store::{CustId, CustRow, LaneRow, SiteRow};
+use std::alloc::Global;
+use std::test::Fail;
+
+// Two sites and three customers, in millionths, and a lane for each pair.
+fn plain(alloc: Global) -> Result<Instance, Fail> {
+    let near = vec![in alloc; Some(1_000_000), Some(2_000_000), Some(9_000_000)]?;
+    let far = vec![in alloc; Some(8_000_000), Some(7_000_000), Some(1_000_000)]?;
+    let sites = vec![in alloc;
+        SiteRow {
+            id: SiteId::new(1),
+            fixed: 10_000_000,
+            cap: None,
+            lanes: LaneRow::from_vec(near)
+        },
+        SiteRow {
+            id: SiteId::new(2),
+            fixed: 12_000_000,
+            cap: None,
+            lanes: LaneRow::from_vec(far)
+        },
+    ]?;
+    let custs = vec![in alloc;
+        CustRow {
+            id: CustId::new(1),
+            demand: 1_000_000
+        },
+        CustRow {
+            id: CustId::new(2),
+            demand: 1_000_000
+        },
+        CustRow {
+            id: CustId::new(3),
+            demand: 1_000_000
+        },
+    ]?;
+    Ok(Instance::from_parts(alloc, 0, 2, 3, 4, custs, sites)?)
+}
+
+// Three sites, two of which cost the first customer the same. The second one has a single lane.
+fn tied(alloc: Global) -> Result<Instance, Fail> {
+    let low = vec![in alloc; Some(7), None]?;
+    let middle = vec![in alloc; Some(2), Some(4)]?;
+    let high = vec![in alloc; Some(2), None]?;
+    let sites = vec![in alloc;
+        SiteRow {
+            id: SiteId::new(3),
+            fixed: 0,
+            cap: None,
+            lanes: LaneRow::from_vec(low)
+        },
+        SiteRow {
+            id: SiteId::new(5),
+            fixed: 0,
+            cap: None,
+            lanes: LaneRow::from_vec(middle)
+        },
+        SiteRow {
+            id: SiteId::new(9),
+            fixed: 0,
+            cap: None,
+            lanes: LaneRow::from_vec(high)
+        },
+    ]?;
+    let custs = vec![in alloc;
+        CustRow {
+            id: CustId::new(2),
+            demand: 1
+        },
+        CustRow {
+            id: CustId::new(4),
+            demand: 1
+        },
+    ]?;
+    Ok(Instance::from_parts(alloc, 0, 3, 10, 5, custs, sites)?)
+}
+
+fn in_numbers(lane: Option<(u64, SiteId)>) -> Option<(u64, u32)> {
+    lane.map(|(cost, site)| (cost, site.number()))
+}
+
+// Whether these are the first lanes of the customer, and `None` comes after the last one.
+fn has_lanes(order: &LaneOrder, cust: usize, want: [Option<(u64, u32)>; 4]) -> bool {
+    cust < order.custs()
+        && in_numbers(order.lane_at(cust, 0)) == want[0]
+        && in_numbers(order.lane_at(cust, 1)) == want[1]
+        && in_numbers(order.lane_at(cust, 2)) == want[2]
+        && in_numbers(order.lane_at(cust, 3)) == want[3]
+}
+
+fn has_next(order: &LaneOrder, cust: usize, cost: u64, want: Option<(u64, u32)>) -> bool {
+    cust < order.custs() && in_numbers(order.next_above(cust, cost)) == want
+}
+
+// Whether the lane of this rank goes from the site at this place.
+fn has_place(order: &LaneOrder, cust: usize, rank: usize, cost: u64, site: u32) -> bool {
+    cust < order.custs() && order.lanes(cust).get(rank) == Some(&PlacedLane { cost, site })
+}
+
+#[test]
+fn orders_an_instance_with_all_lanes(rt: HostRuntime) -> Result<(), Fail> {
+    let inst = plain(rt.alloc())?;
+    let order = LaneOrder::of(rt.alloc(), &inst)?;
+    assert!(rt; order.custs() == 3);
+    assert!(rt;
+        has_lanes(
+            &order,
+            0,
+            [Some((1_000_000, 1)), Some((8_000_000, 2)), None, None]
+        )
+    );
+    assert!(rt;
+        has_lanes(
+            &order,
+            1,
+            [Some((2_000_000, 1)), Some((7_000_000, 2)), None, None]
+        )
+    );
+    assert!(rt;
+        has_lanes(
+            &order,
+            2,
+            [Some((1_000_000, 2)), Some((9_000_000, 1)), None, None]
+        )
+    );
+    assert!(rt; has_place(&order, 2, 0, 1_000_000, 1) && has_place(&order, 2, 1, 9_000_000, 0));
+    Ok(())
+}
+
+#[test]
+fn orders_ties_by_id(rt: HostRuntime) -> Result<(), Fail> {
+    let inst = tied(rt.alloc())?;
+    let order = LaneOrder::of(rt.alloc(), &inst)?;
+    assert!(rt; has_lanes(&order, 0, [Some((2, 5)), Some((2, 9)), Some((7, 3)), None]));
+    assert!(rt; has_lanes(&order, 1, [Some((4, 5)), None, None, None]));
+    assert!(rt; has_place(&order, 0, 1, 2, 2));
+    Ok(())
+}
+
+#[test]
+fn finds_the_next_cost(rt: HostRuntime) -> Result<(), Fail> {
+    let inst = tied(rt.alloc())?;
+    let order = LaneOrder::of(rt.alloc(), &inst)?;
+    assert!(rt; has_next(&order, 0, 0, Some((2, 5))) && has_next(&order, 0, 1, Some((2, 5))));
+    assert!(rt; has_next(&order, 0, 2, Some((7, 3))) && has_next(&order, 0, 6, Some((7, 3))));
+    assert!(rt; has_next(&order, 0, 7, None) && has_next(&order, 0, u64::MAX, None));
+    assert!(rt; has_next(&order, 1, 3, Some((4, 5))) && has_next(&order, 1, 4, None));
+    Ok(())
+}
