@@ -1,3 +1,4 @@
 pub mod Fair
 pub mod Picked
 pub mod Rise
+pub mod Raised
