@@ -2,3 +2,4 @@ pub mod Fair
 pub mod Picked
 pub mod Rise
 pub mod Raised
+pub mod Rounds
