@@ -3,3 +3,4 @@ pub mod Picked
 pub mod Rise
 pub mod Raised
 pub mod Rounds
+pub mod Ceiling
