@@ -48,7 +48,7 @@ module _ (I : Instance) (path : Path) (limit : ℤ) where
   abbrev pub IsUnder : Duals → Type 0
   IsUnder d = (k : ℕ) → k < length I.customers → v_at d k ≤ℤ limit
 
-  room_stays : (d e : Duals) → IsRisen I path d e → HasRoom d → HasRoom e
+  pub room_stays : (d e : Duals) → IsRisen I path d e → HasRoom d → HasRoom e
   room_stays d e up room = subst HasRoom (same_prices d e up.scale up.count_price up.prices) room
 
   module _ (d : Duals) (room : HasRoom d) (under : IsUnder d) (j : ℕ) (known : j < length I.customers) (here : j < length d.v) where

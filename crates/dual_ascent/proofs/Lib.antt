@@ -4,3 +4,4 @@ pub mod Rise
 pub mod Raised
 pub mod Rounds
 pub mod Ceiling
+pub mod Ends
