@@ -37,7 +37,7 @@ same_prices d e q nu u =
     ap by_q (sym q) ∙ ap by_nu (sym nu) ∙ ap by_u (sym u)
 
 -- places are below their number
-places_below : (n : ℕ) → All (λ i. i < n) (range_with_len 0 n)
+pub places_below : (n : ℕ) → All (λ i. i < n) (range_with_len 0 n)
 places_below n = All-from_get_or (λ i. i < n) (range_with_len 0 n) 0 (λ i b. let inside : i < n = omega (arith, b, length-range_with_len 0 n) in omega (arith, inside, get_or-range_with_len 0 n i 0 inside))
 
 module _ (I : Instance) (path : Path) (limit : ℤ) where

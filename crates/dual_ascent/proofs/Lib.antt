@@ -5,3 +5,5 @@ pub mod Raised
 pub mod Rounds
 pub mod Ceiling
 pub mod Ends
+pub mod Tame
+pub mod Kept
