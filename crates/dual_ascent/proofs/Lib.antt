@@ -7,3 +7,4 @@ pub mod Ceiling
 pub mod Ends
 pub mod Tame
 pub mod Kept
+pub mod Results
