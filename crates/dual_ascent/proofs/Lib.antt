@@ -8,3 +8,4 @@ pub mod Ends
 pub mod Tame
 pub mod Kept
 pub mod Results
+pub mod Measured
