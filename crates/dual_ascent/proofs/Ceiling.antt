@@ -29,7 +29,7 @@ paid_allowed true v level e = omega (arith, ints, clamps)
 paid_allowed false v level e = absurd (false≢true e)
 
 -- the duals of these prices
-same_prices : (d e : Duals) → e.q ≡ d.q → e.nu ≡ d.nu → e.u ≡ d.u → (let f : Duals = record d { v = e.v } in f) ≡ e
+pub same_prices : (d e : Duals) → e.q ≡ d.q → e.nu ≡ d.nu → e.u ≡ d.u → (let f : Duals = record d { v = e.v } in f) ≡ e
 same_prices d e q nu u =
     let by_q : ℕ → Duals = λ x. record { q = x; nu = d.nu; v = e.v; u = d.u } in
     let by_nu : ℤ → Duals = λ x. record { q = e.q; nu = x; v = e.v; u = d.u } in

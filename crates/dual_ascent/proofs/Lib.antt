@@ -9,3 +9,5 @@ pub mod Tame
 pub mod Kept
 pub mod Results
 pub mod Measured
+pub mod Again
+pub mod Plain
