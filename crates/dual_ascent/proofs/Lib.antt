@@ -11,3 +11,4 @@ pub mod Results
 pub mod Measured
 pub mod Again
 pub mod Plain
+pub mod Blocked
