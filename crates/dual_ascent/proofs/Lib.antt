@@ -12,3 +12,4 @@ pub mod Measured
 pub mod Again
 pub mod Plain
 pub mod Blocked
+pub mod Turns

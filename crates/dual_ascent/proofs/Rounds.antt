@@ -40,7 +40,7 @@ module _ (I : Instance) (path : Path) where
   pub seats_are_risen : (d : Duals) → length d.v ≡ length I.customers → (customers : List ℕ) → AreKnown customers → IsRisen I path d (fold (seated I path) d customers)
   seats_are_risen = fold_is_risen (seated I path) (seated_is_risen I path)
 
-  raises_are_risen : (d : Duals) → length d.v ≡ length I.customers → (customers : List ℕ) → AreKnown customers → IsRisen I path d (fold (raised I path) d customers)
+  pub raises_are_risen : (d : Duals) → length d.v ≡ length I.customers → (customers : List ℕ) → AreKnown customers → IsRisen I path d (fold (raised I path) d customers)
   raises_are_risen = fold_is_risen (raised I path) (raised_is_risen I path)
 
   -- raises that change nothing find every customer blocked
@@ -63,7 +63,7 @@ module _ (I : Instance) (path : Path) where
       ]
 
   -- raises change nothing, or make the sum of the duals greater
-  raises_move : (d : Duals) → length d.v ≡ length I.customers → (customers : List ℕ) → AreKnown customers → (fold (raised I path) d customers ≡ d) ⊎ (value_sum d <ℤ value_sum (fold (raised I path) d customers))
+  pub raises_move : (d : Duals) → length d.v ≡ length I.customers → (customers : List ℕ) → AreKnown customers → (fold (raised I path) d customers ≡ d) ⊎ (value_sum d <ℤ value_sum (fold (raised I path) d customers))
   raises_move d long [] known = inl refl
   raises_move d long (j ∷ js) known =
       let in_range : j < length I.customers = All-head (λ k. k < length I.customers) j js known in
