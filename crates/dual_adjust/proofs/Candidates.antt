@@ -15,6 +15,7 @@ use Rattle.location_terms.specs.declared.limits.TheConstants.{MAX_VALUE}
 use Rattle.dual_value.proofs.Sizes.{abs_below, abs_above, abs_from}
 use Rattle.dual_ascent.specs.Levels.{servers, levels_of}
 use Rattle.dual_ascent.specs.Ascent.{IsBlocked, IsAscended, IsAscendedApart}
+use Rattle.dual_ascent.proofs.Tested.{int_lt-less}
 use Rattle.dual_ascent.proofs.Picked.{all_picked, all_valued}
 use Rattle.dual_ascent.proofs.Rounds.{one_ascent}
 use Rattle.dual_ascent.proofs.Results.{Keeps, others, ascended_exists, ascended_keeps, ascended_is_blocked, apart_exists, apart_keeps}
@@ -37,9 +38,6 @@ some_greatest (x ∷ xs) b = (fold int_max x xs, refl)
 
 none_of_none : {X : Type 0} (xs : List X) → (0 < length xs → ⊥) → All (λ x. ⊥) xs
 none_of_none xs none k x b = none (omega (arith, b))
-
-int_lt-less : (x y : ℤ) → int_lt x y ≡ true → x <ℤ y
-int_lt-less x y e = grind (arith, ints)
 
 either_length : (n : ℕ) → (0 < n) ⊎ (0 < n → ⊥)
 either_length zero = inr (λ b. omega (arith, b))

@@ -11,6 +11,7 @@ use Rattle.location_terms.specs.Box.{Path}
 use Rattle.location_terms.specs.Bound.{Duals, v_at}
 use Rattle.dual_ascent.specs.Levels.{least_level}
 use Rattle.dual_ascent.specs.Ascent.{with_v, seated, round, rounds, IsAscendedOver}
+use Rattle.dual_ascent.proofs.Fair.{with_same}
 use Rattle.dual_ascent.proofs.Raised.{IsRisen, seated_is_risen}
 use Rattle.dual_ascent.proofs.Rounds.{AreKnown, seats_are_risen, rounds_are_risen}
 use Rattle.dual_ascent.proofs.Ceiling.{same_prices}
@@ -52,7 +53,7 @@ module _ (I : Instance) (path : Path) where
 
   unmoved : (d : Duals) (j : ℕ) → IsSeated d j → seated I path d j ≡ d
   unmoved d j seat =
-      ap (with_v d j) (seat_no_higher (least_level I path d j) (v_at d j) seat) ∙ ap (λ (xs : List ℤ). let e : Duals = record d { v = xs } in e) (set-get_or d.v j (pos 0))
+      ap (with_v d j) (seat_no_higher (least_level I path d j) (v_at d j) seat) ∙ with_same d j
 
   all_unmoved : (d : Duals) (customers : List ℕ) → All (IsSeated d) customers → fold (seated I path) d customers ≡ d
   all_unmoved d [] seats = refl

@@ -16,6 +16,7 @@ use Rattle.dual_value.proofs.Unpaid.{closed_bars}
 use Rattle.dual_ascent.specs.Levels.{site_places, servers, reached}
 use Rattle.dual_ascent.specs.Ascent.{is_spent, is_blocked}
 use Rattle.dual_ascent.proofs.Fair.{risen, v_here, v_other, v_above, total_changed, bound_rises}
+use Rattle.dual_ascent.proofs.Tested.{int_le-less}
 use Rattle.dual_ascent.proofs.Rise.{rise, rise_positive, rise_leaves}
 use Rattle.dual_ascent.proofs.Measured.{picked_all, slack_falls}
 use Rattle.dual_ascent.proofs.Ceiling.{places_below}
@@ -43,9 +44,6 @@ share_falls called true s t r e low fell spent = absurd (false≢true (sym e))
 share_falls true false s t r e low fell spent = omega (arith, ints)
 share_falls false false s t r e low fell (inl opened) = absurd (false≢true opened)
 share_falls false false s t r e low fell (inr nothing) = omega (arith, ints, clamps)
-
-int_le-less : (x y : ℤ) → int_le x y ≡ true → x ≤ℤ y
-int_le-less x y e = grind (arith, ints)
 
 module _ (I : Instance) (path : Path) (d : Duals) (j : ℕ) (here : j < length d.v) (known : j < length I.customers) where
   -- a customer that is not blocked can rise and make the bound greater

@@ -15,7 +15,8 @@ use Rattle.location_terms.proofs.Totals.{total_le, total_part}
 use Rattle.dual_ascent.specs.Levels.{site_places, servers, levels_of, least_level, reached}
 use Rattle.dual_ascent.specs.Ascent.{is_spent, is_blocked, with_v, seated, raised, round, rounds, IsAscendedOver}
 use Rattle.dual_ascent.proofs.Fair.{v_here, v_other}
-use Rattle.dual_ascent.proofs.Rise.{neither, least_among, rise, rise_positive, rise_leaves}
+use Rattle.dual_ascent.proofs.Tested.{neither}
+use Rattle.dual_ascent.proofs.Rise.{least_among, rise, rise_positive, rise_leaves}
 use Rattle.dual_ascent.proofs.Raised.{IsRisen, seated_is_risen, raised_is_risen, raised_blocked, raised_free}
 use Rattle.dual_ascent.proofs.Rounds.{AreKnown, value_sum, seats_are_risen, round_is_risen, round_moves}
 
@@ -94,6 +95,6 @@ module _ (I : Instance) (path : Path) (limit : ℤ) where
     pub raised_under : IsUnder (raised I path d j)
     raised_under =
         elim (cases_Bool (is_blocked I path d j)) [
-          | inl blocked ↦ subst IsUnder (sym (raised_blocked I path d j known here blocked)) under
-          | inr free ↦ subst IsUnder (sym (raised_free I path d j known here free)) (with_v_under (v_at d j +ℤ rise I path d j) (free_under free))
+          | inl blocked ↦ subst IsUnder (sym (raised_blocked I path d j blocked)) under
+          | inr free ↦ subst IsUnder (sym (raised_free I path d j free)) (with_v_under (v_at d j +ℤ rise I path d j) (free_under free))
         ]

@@ -1,16 +1,20 @@
 -- One customer's dual raised alone, by no more than each of its lanes leaves: the slacks that fall stay at 0 or more, no
 -- site's share changes, and the bound rises by as much.
-use Rattle.std.proofs.Common.{◌≡◌, ◌≢◌, ℕ, ◌<◌, refl, sym, subst, ap, ◌∙◌, inl, inr, arith, Bool, true, false, length, ℤ, pos, ◌+ℤ◌, ◌-ℤ◌, ◌≤ℤ◌}
+use Rattle.std.proofs.Common.{◌≡◌, ◌≢◌, ℕ, ◌<◌, refl, sym, subst, ap, ◌∙◌, inl, inr, arith, Bool, true, false, length, List, ℤ, pos, ◌+ℤ◌, ◌-ℤ◌, ◌≤ℤ◌}
 use Rattle.std.specs.Prelude.{◌⊎◌, if◌then◌else◌}
 use Rattle.std.specs.Int.{int_max, int_min}
 use Rattle.std.proofs.lemmas.Int.{ints, clamps}
 use Rattle.std.proofs.lemmas.Bool.{false≢true, cases_eq}
-use Rattle.std.proofs.lemmas.List.{get_or-set_same, get_or-set_other}
+use Rattle.std.proofs.lemmas.List.{get_or-set_same, get_or-set_other, set-get_or}
 use Rattle.location_terms.specs.Instance.{Instance, site_at, customer_at}
 use Rattle.location_terms.specs.Box.{Path, is_allowed, is_opened, is_free}
 use Rattle.location_terms.specs.Bound.{Duals, v_at, level_at, paid_at, total, slack_of, share_of, bound_of}
 use Rattle.location_terms.proofs.Totals.{total_same, total_one, total_minus}
 use Rattle.dual_ascent.specs.Ascent.{with_v}
+
+-- a dual that is given anew what it is stays
+pub with_same : (d : Duals) (j : ℕ) → with_v d j (v_at d j) ≡ d
+with_same d j = ap (λ (xs : List ℤ). let e : Duals = record d { v = xs } in e) (set-get_or d.v j (pos 0))
 
 -- totals of terms that differ at one place
 pub total_changed : (f g : ℕ → ℤ) (n k : ℕ) → k < n → ((i : ℕ) → i < n → i ≢ k → f i ≡ g i) → total f n ≡ total g n +ℤ (f k -ℤ g k)

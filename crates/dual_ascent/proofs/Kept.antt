@@ -13,15 +13,13 @@ use Rattle.location_terms.specs.Bound.{Duals, v_at, level_at}
 use Rattle.dual_ascent.specs.Levels.{least, servers, least_level, reached}
 use Rattle.dual_ascent.specs.Ascent.{is_spent, is_blocked, with_v, seated, raised, round, rounds, IsAscendedOver}
 use Rattle.dual_ascent.proofs.Rise.{rise}
-use Rattle.dual_ascent.proofs.Fair.{risen, v_other}
+use Rattle.dual_ascent.proofs.Fair.{with_same, v_other}
+use Rattle.dual_ascent.proofs.Tested.{or_first}
+use Rattle.dual_ascent.proofs.Raised.{raised_blocked, raised_free}
 
 nothing_in : {X : Type 0} (xs : List X) → length xs ≡ 0 → xs ≡ []
 nothing_in [] e = refl
 nothing_in (x ∷ xs) e = absurd (omega (arith, e))
-
-or_first : (a b : Bool) → a ≡ true → (a || b) ≡ true
-or_first true b e = refl
-or_first false b e = absurd (false≢true e)
 
 module _ (I : Instance) (path : Path) where
   -- the customer has no allowed lane
@@ -37,10 +35,7 @@ module _ (I : Instance) (path : Path) where
       let same : int_max (v_at d j) (v_at d j) ≡ v_at d j = omega (arith, ints, clamps) in
       ap (λ (o : Option ℤ). with_v d j (int_max (v_at d j) (unwrap_or o (v_at d j)))) no_level
       ∙ ap (with_v d j) same
-      ∙ ap (λ (xs : List ℤ). let e : Duals = record d { v = xs } in e) (set-get_or d.v j (pos 0))
-
-  raised_by : (d : Duals) (j : ℕ) (b : Bool) → is_blocked I path d j ≡ b → raised I path d j ≡ (if b then d else risen I path d j (rise I path d j))
-  raised_by d j b e = ap (λ (x : Bool). if x then d else risen I path d j (rise I path d j)) e
+      ∙ with_same d j
 
   module _ (p : ℕ) where
     -- the step of the customer at j can't touch the dual of the customer at p
@@ -52,11 +47,11 @@ module _ (I : Instance) (path : Path) where
     seat_spares d j (inl other) = get_or-set_other d.v j p (int_max (v_at d j) (unwrap_or (least_level I path d j) (v_at d j))) (pos 0) (λ e. other (sym e))
 
     raise_spares : (d : Duals) (j : ℕ) → Spares j → v_at (raised I path d j) p ≡ v_at d p
-    raise_spares d j (inr none) = ap (λ (f : Duals). v_at f p) (raised_by d j true (unserved_is_blocked d j none))
+    raise_spares d j (inr none) = ap (λ (f : Duals). v_at f p) (raised_blocked I path d j (unserved_is_blocked d j none))
     raise_spares d j (inl other) =
         elim (cases_Bool (is_blocked I path d j)) [
-          | inl blocked ↦ ap (λ (f : Duals). v_at f p) (raised_by d j true blocked)
-          | inr free ↦ ap (λ (f : Duals). v_at f p) (raised_by d j false free) ∙ v_other I path d j (rise I path d j) p (λ e. other (sym e))
+          | inl blocked ↦ ap (λ (f : Duals). v_at f p) (raised_blocked I path d j blocked)
+          | inr free ↦ ap (λ (f : Duals). v_at f p) (raised_free I path d j free) ∙ v_other I path d j (rise I path d j) p (λ e. other (sym e))
         ]
 
     fold_spares : (step : Duals → ℕ → Duals) → ((d : Duals) (j : ℕ) → Spares j → v_at (step d j) p ≡ v_at d p) → (d : Duals) (customers : List ℕ) → All Spares customers → v_at (fold step d customers) p ≡ v_at d p

@@ -1,3 +1,4 @@
+pub mod Tested
 pub mod Fair
 pub mod Picked
 pub mod Rise

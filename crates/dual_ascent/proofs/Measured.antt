@@ -18,7 +18,8 @@ use Rattle.dual_ascent.specs.Levels.{least, site_places, servers, levels_of, nex
 use Rattle.dual_ascent.specs.Ascent.{is_spent, is_blocked, lesser}
 use Rattle.dual_ascent.proofs.Picked.{all_picked, all_places}
 use Rattle.dual_ascent.proofs.Fair.{Leaves, risen, v_here, v_other, total_changed}
-use Rattle.dual_ascent.proofs.Rise.{least_among, rise, rise_positive, rise_leaves, neither}
+use Rattle.dual_ascent.proofs.Rise.{least_among, rise, rise_positive, rise_leaves}
+use Rattle.dual_ascent.proofs.Tested.{int_lt-less, int_le-less, neither, or_neither}
 use Rattle.dual_ascent.proofs.Ceiling.{places_below}
 
 -- what a customer pays after a rise of r: r more where its dual was at the level or above, as before where the level is still no lower
@@ -32,22 +33,12 @@ paid_same : (allowed : Bool) (v r level : ℤ) → pos 0 ≤ℤ r → (allowed �
 paid_same true v r level low over = let still = over refl in omega (arith, ints, clamps, still)
 paid_same false v r level low over = refl
 
-int_lt-less : (x y : ℤ) → int_lt x y ≡ true → x <ℤ y
-int_lt-less x y e = grind (arith, ints)
-
-int_le-less : (x y : ℤ) → int_le x y ≡ true → x ≤ℤ y
-int_le-less x y e = grind (arith, ints)
-
 lesser_at_least : (next least_slack : Option ℤ) (v r : ℤ) → MatchOption next ⊤ (λ l. (v +ℤ r) ≤ℤ l) → MatchOption least_slack ⊤ (λ s. r ≤ℤ s)
     → pos 0 <ℤ unwrap_or (lesser (option_map (λ l. l -ℤ v) next) least_slack) (pos 0) → r ≤ℤ unwrap_or (lesser (option_map (λ l. l -ℤ v) next) least_slack) (pos 0)
 lesser_at_least None None v r h k some = absurd (omega (arith, ints, some))
 lesser_at_least None (Some s) v r h k some = k
 lesser_at_least (Some l) None v r h k some = omega (arith, ints)
 lesser_at_least (Some l) (Some s) v r h k some = omega (arith, ints, clamps)
-
-or_neither : (a b : Bool) → a ≡ false → b ≡ false → (a || b) ≡ false
-or_neither true b e h = absurd (false≢true (sym e))
-or_neither false b e h = h
 
 nobody : (xs : List ℕ) → All (λ k. ⊥) xs → length xs ≡ 0
 nobody [] h = refl

@@ -12,8 +12,9 @@ use Rattle.location_terms.specs.Box.{Path, is_allowed}
 use Rattle.location_terms.specs.Bound.{Duals, v_at, level_at, total, slack_of, bound_of}
 use Rattle.dual_ascent.specs.Levels.{least, site_places, servers, levels_of, least_level, reached}
 use Rattle.dual_ascent.specs.Ascent.{is_spent, is_blocked, with_v, seated, raised}
+use Rattle.dual_ascent.proofs.Tested.{int_lt-less, int_lt-not}
 use Rattle.dual_ascent.proofs.Picked.{all_picked, all_valued, all_places}
-use Rattle.dual_ascent.proofs.Fair.{Leaves, risen, v_other, v_above, slack_stays, values_rise, bound_rises}
+use Rattle.dual_ascent.proofs.Fair.{with_same, Leaves, risen, v_other, v_above, slack_stays, values_rise, bound_rises}
 use Rattle.dual_ascent.proofs.Rise.{least_within, rise, rise_positive, rise_leaves}
 
 -- what the ascent keeps from one set of duals to the next
@@ -50,11 +51,13 @@ risen_again I path d e f one two =
       bound = omega (arith, ints, one.bound, two.bound)
     }
 
-int_lt-less : (x y : ℤ) → int_lt x y ≡ true → x <ℤ y
-int_lt-less x y e = grind (arith, ints)
+-- a customer that is blocked keeps its dual, any other has risen
+module _ (I : Instance) (path : Path) (d : Duals) (j : ℕ) where
+  pub raised_blocked : is_blocked I path d j ≡ true → raised I path d j ≡ d
+  raised_blocked e = ap (λ (b : Bool). if b then d else risen I path d j (rise I path d j)) e
 
-int_lt-not : (x y : ℤ) → int_lt x y ≡ false → y ≤ℤ x
-int_lt-not x y e = grind (arith, ints)
+  pub raised_free : is_blocked I path d j ≡ false → raised I path d j ≡ risen I path d j (rise I path d j)
+  raised_free e = ap (λ (b : Bool). if b then d else risen I path d j (rise I path d j)) e
 
 module _ (I : Instance) (path : Path) (d : Duals) (j : ℕ) (known : j < length I.customers) (here : j < length d.v) where
   step_is_risen : (r : ℤ) → pos 0 ≤ℤ r → ((i : ℕ) → i < length I.sites → Leaves I path d j r i) → IsRisen I path d (risen I path d j r)
@@ -79,13 +82,10 @@ module _ (I : Instance) (path : Path) (d : Duals) (j : ℕ) (known : j < length 
       let at_most : l ≤ℤ level_at I d i j = subst (λ o. Q o i) e within in
       inl (omega (arith, ints, at_most))
 
-  same_seat : with_v d j (v_at d j) ≡ d
-  same_seat = ap (λ (xs : List ℤ). let e : Duals = record d { v = xs } in e) (set-get_or d.v j (pos 0))
-
   seated_by : (o : Option ℤ) → least_level I path d j ≡ o → IsRisen I path d (with_v d j (int_max (v_at d j) (unwrap_or o (v_at d j))))
   seated_by None e =
       let same : int_max (v_at d j) (v_at d j) ≡ v_at d j = omega (arith, ints, clamps) in
-      subst (λ f. IsRisen I path d f) (sym (ap (with_v d j) same ∙ same_seat)) (same_is_risen I path d)
+      subst (λ f. IsRisen I path d f) (sym (ap (with_v d j) same ∙ with_same d j)) (same_is_risen I path d)
   seated_by (Some l) e =
       elim (cases_Bool (int_lt (v_at d j) l)) [
         | inl below ↦
@@ -95,18 +95,11 @@ module _ (I : Instance) (path : Path) (d : Duals) (j : ℕ) (known : j < length 
         | inr reached ↦
             let least_or_more : l ≤ℤ v_at d j = int_lt-not (v_at d j) l reached in
             let same : int_max (v_at d j) l ≡ v_at d j = omega (arith, ints, clamps, least_or_more) in
-            subst (λ f. IsRisen I path d f) (sym (ap (with_v d j) same ∙ same_seat)) (same_is_risen I path d)
+            subst (λ f. IsRisen I path d f) (sym (ap (with_v d j) same ∙ with_same d j)) (same_is_risen I path d)
       ]
 
   pub seated_is_risen : IsRisen I path d (seated I path d j)
   seated_is_risen = seated_by (least_level I path d j) refl
-
-  -- a customer that is blocked keeps its dual
-  pub raised_blocked : is_blocked I path d j ≡ true → raised I path d j ≡ d
-  raised_blocked e = ap (λ (b : Bool). if b then d else risen I path d j (rise I path d j)) e
-
-  pub raised_free : is_blocked I path d j ≡ false → raised I path d j ≡ risen I path d j (rise I path d j)
-  raised_free e = ap (λ (b : Bool). if b then d else risen I path d j (rise I path d j)) e
 
   free_is_risen : is_blocked I path d j ≡ false → IsRisen I path d (risen I path d j (rise I path d j))
   free_is_risen free =
@@ -116,8 +109,8 @@ module _ (I : Instance) (path : Path) (d : Duals) (j : ℕ) (known : j < length 
   pub raised_is_risen : IsRisen I path d (raised I path d j)
   raised_is_risen =
       elim (cases_Bool (is_blocked I path d j)) [
-        | inl blocked ↦ subst (λ f. IsRisen I path d f) (sym (raised_blocked blocked)) (same_is_risen I path d)
-        | inr free ↦ subst (λ f. IsRisen I path d f) (sym (raised_free free)) (free_is_risen free)
+        | inl blocked ↦ subst (λ f. IsRisen I path d f) (sym (raised_blocked I path d j blocked)) (same_is_risen I path d)
+        | inr free ↦ subst (λ f. IsRisen I path d f) (sym (raised_free I path d j free)) (free_is_risen free)
       ]
 
   -- a customer that is not blocked rises: the sum of the duals is greater
@@ -125,4 +118,4 @@ module _ (I : Instance) (path : Path) (d : Duals) (j : ℕ) (known : j < length 
   raised_more free =
       let up = rise_positive I path d j free in
       let more = values_rise I path d j (rise I path d j) (omega (arith, ints, up)) here known (rise_leaves I path d j free) in
-      subst (λ f. total (v_at d) (length I.customers) <ℤ total (v_at f) (length I.customers)) (sym (raised_free free)) (omega (arith, ints, up, more))
+      subst (λ f. total (v_at d) (length I.customers) <ℤ total (v_at f) (length I.customers)) (sym (raised_free I path d j free)) (omega (arith, ints, up, more))

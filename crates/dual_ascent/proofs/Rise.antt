@@ -11,6 +11,7 @@ use Rattle.location_terms.specs.Box.{Path, is_allowed, is_opened}
 use Rattle.location_terms.specs.Bound.{Duals, v_at, level_at, slack_of}
 use Rattle.dual_ascent.specs.Levels.{least, site_places, servers, levels_of, next_level, reached}
 use Rattle.dual_ascent.specs.Ascent.{is_spent, is_blocked, lesser, rise_of}
+use Rattle.dual_ascent.proofs.Tested.{int_lt-less, int_le-less, int_le-not, less-int_lt, neither, none_passes}
 use Rattle.dual_ascent.proofs.Picked.{all_picked, all_valued, all_places}
 use Rattle.dual_ascent.proofs.Fair.{Leaves}
 
@@ -29,16 +30,6 @@ least_among P (x ∷ xs) h =
       | inl first ↦ subst P (sym first) (All-head P x xs h)
       | inr later ↦ All-contains P xs (fold int_min x xs) (All-tail P x xs h) later
     ]
-
-pub neither : (a b : Bool) → (a || b) ≡ false → (a ≡ false) × (b ≡ false)
-neither true b e = absurd (false≢true (sym e))
-neither false b e = (refl, e)
-
-pub none_passes : {X : Type 0} (p : X → Bool) (xs : List X) → list_any p xs ≡ false → All (λ x. p x ≡ false) xs
-none_passes p [] e = All-nil (λ x. p x ≡ false)
-none_passes p (x ∷ xs) e =
-    let parts = neither (p x) (list_any p xs) e in
-    All-cons (λ y. p y ≡ false) x xs parts.0 (none_passes p xs parts.1)
 
 -- the lesser of the way to the next level and of the least slack stays within both
 within_next : (next least_slack : Option ℤ) (v level : ℤ) → MatchOption next ⊥ (λ l. l ≤ℤ level) → (v +ℤ unwrap_or (lesser (option_map (λ l. l -ℤ v) next) least_slack) (pos 0)) ≤ℤ level
@@ -60,18 +51,6 @@ above_zero None None v level slack h k (inr none) = absurd none
 above_zero None (Some s) v level slack h k some = k
 above_zero (Some l) None v level slack h k some = omega (arith, ints)
 above_zero (Some l) (Some s) v level slack h k some = omega (arith, ints, clamps)
-
-int_lt-less : (x y : ℤ) → int_lt x y ≡ true → x <ℤ y
-int_lt-less x y e = grind (arith, ints)
-
-int_le-less : (x y : ℤ) → int_le x y ≡ true → x ≤ℤ y
-int_le-less x y e = grind (arith, ints)
-
-int_le-not : (x y : ℤ) → int_le x y ≡ false → y <ℤ x
-int_le-not x y e = grind (arith, ints)
-
-less-int_lt : (x y : ℤ) → int_le y x ≡ false → int_lt x y ≡ true
-less-int_lt x y e = grind (arith, ints)
 
 module _ (I : Instance) (path : Path) (d : Duals) (j : ℕ) where
   abbrev pub rise : ℤ

@@ -53,7 +53,7 @@ module _ (I : Instance) (path : Path) where
       let e : Duals = raised I path d j in
       elim (cases_Bool (is_blocked I path d j)) [
         | inl blocked ↦
-            let same : e ≡ d = raised_blocked I path d j in_range here blocked in
+            let same : e ≡ d = raised_blocked I path d j blocked in
             All-cons (λ k. is_blocked I path d k ≡ true) j js blocked (fixed_blocks d long js rest (ap (λ f. fold (raised I path) f js) (sym same) ∙ fixed))
         | inr free ↦
             let long_after : length e.v ≡ length I.customers = (raised_is_risen I path d j in_range here).customers ∙ long in
@@ -72,7 +72,7 @@ module _ (I : Instance) (path : Path) where
       let e : Duals = raised I path d j in
       elim (cases_Bool (is_blocked I path d j)) [
         | inl blocked ↦
-            let same : e ≡ d = raised_blocked I path d j in_range here blocked in
+            let same : e ≡ d = raised_blocked I path d j blocked in
             let Moves : Duals → Type 0 = λ f. (fold (raised I path) f js ≡ d) ⊎ (value_sum d <ℤ value_sum (fold (raised I path) f js)) in
             subst Moves (sym same) (raises_move d long js rest)
         | inr free ↦
