@@ -21,7 +21,7 @@ use Rattle.dual_ascent.proofs.Rounds.{one_ascent}
 use Rattle.dual_ascent.proofs.Results.{Keeps, others, ascended_exists, ascended_keeps, ascended_is_blocked, apart_exists, apart_keeps}
 use Rattle.dual_ascent.specs.Levels.{customer_places}
 use Rattle.dual_adjust.specs.Slackness.{paid_sites, is_violating, tight_sites}
-use Rattle.dual_adjust.specs.Gain.{greatest, lowered, IsCandidate, Gains}
+use Rattle.dual_adjust.specs.Adjustment.{greatest, lowered, IsCandidate, Gains}
 
 -- the greatest of some numbers is one of them, and there is none only of none
 greatest_among : (P : ℤ → Type 0) (xs : List ℤ) → All P xs → MatchOption (greatest xs) ⊤ P

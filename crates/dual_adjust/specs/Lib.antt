@@ -1,2 +1,2 @@
 pub mod Slackness
-pub mod Gain
+pub mod Adjustment

@@ -1,16 +1,16 @@
 -- What the ascent leads to is its own ascent.
-use Rattle.std.proofs.Common.{◌≡◌, ℕ, zero, suc, ◌<◌, refl, sym, ap, subst, ◌∙◌, arith, length, List, [], ◌∷◌, Option, Some, None, unwrap_or, ℤ, pos, ◌≤ℤ◌}
+use Rattle.std.proofs.Common.{◌≡◌, ℕ, ◌<◌, refl, sym, ap, subst, ◌∙◌, arith, length, List, [], ◌∷◌, Option, Some, None, unwrap_or, ℤ, pos, ◌≤ℤ◌}
 use Rattle.std.specs.Prelude.{⊤, All, MatchOption}
 use Rattle.std.specs.List.{fold}
 use Rattle.std.specs.Int.{int_max}
 use Rattle.std.proofs.lemmas.Int.{ints, clamps}
-use Rattle.std.proofs.lemmas.List.{get_or-set_same, set-get_or}
+use Rattle.std.proofs.lemmas.List.{get_or-set_same}
 use Rattle.std.proofs.lemmas.List.Elements.{All-nil, All-cons, All-head, All-tail, All-weaker}
 use Rattle.location_terms.specs.Instance.{Instance}
 use Rattle.location_terms.specs.Box.{Path}
 use Rattle.location_terms.specs.Bound.{Duals, v_at}
 use Rattle.dual_ascent.specs.Levels.{least_level}
-use Rattle.dual_ascent.specs.Ascent.{with_v, seated, round, rounds, IsAscendedOver}
+use Rattle.dual_ascent.specs.Ascent.{with_v, seated, rounds, IsAscendedOver}
 use Rattle.dual_ascent.proofs.Fair.{with_same}
 use Rattle.dual_ascent.proofs.Raised.{IsRisen, seated_is_risen}
 use Rattle.dual_ascent.proofs.Rounds.{AreKnown, seats_are_risen, rounds_are_risen}

@@ -1,12 +1,11 @@
 -- What it means that a customer is blocked: no rise of its dual alone makes the bound greater, and a customer that is not
 -- blocked has one that does.
-use Rattle.std.proofs.Common.{◌≡◌, ◌≢◌, ℕ, zero, suc, ◌<◌, refl, sym, ap, subst, ◌∙◌, inl, inr, arith, Bool, true, false, length, List, ℤ, pos, ◌+ℤ◌, ◌-ℤ◌, ◌≤ℤ◌, ◌<ℤ◌}
-use Rattle.std.specs.Prelude.{◌⊎◌, ◌||◌, ◌&&◌, not, ◌==◌, All, Any, int_le, if◌then◌else◌}
+use Rattle.std.proofs.Common.{◌≡◌, ◌≢◌, ℕ, ◌<◌, sym, subst, ◌∙◌, inl, inr, arith, Bool, true, false, length, ℤ, pos, ◌+ℤ◌, ◌-ℤ◌, ◌≤ℤ◌, ◌<ℤ◌}
+use Rattle.std.specs.Prelude.{◌⊎◌, ◌&&◌, not, ◌==◌, All, Any, int_le, if◌then◌else◌}
 use Rattle.std.specs.List.{list_any}
 use Rattle.std.specs.Int.{int_max, int_min}
 use Rattle.std.proofs.lemmas.Int.{ints, clamps}
-use Rattle.std.proofs.lemmas.Bool.{or_cases, cases_Bool, eqb-true, false≢true, false_from_ne_true}
-use Rattle.std.proofs.lemmas.List.Elements.{All-filter, filter_passes}
+use Rattle.std.proofs.lemmas.Bool.{or_cases, eqb-true, false≢true, false_from_ne_true}
 use Rattle.std.proofs.lemmas.List.Folds.{Any-from_list_any}
 use Rattle.location_terms.specs.Instance.{Instance, site_at, customer_at}
 use Rattle.location_terms.specs.Box.{Path, is_allowed, is_opened, is_closed, is_called_for, is_free}
@@ -68,10 +67,10 @@ module _ (I : Instance) (path : Path) (d : Duals) (j : ℕ) (here : j < length d
         let fell = slack_falls I path d j r low here known i allowed under in
         let not_closed : is_closed path (site_at I i) ≡ false = false_from_ne_true (is_closed path (site_at I i)) (λ t. false≢true (sym (closed_bars I path (site_at I i) (customer_at I j) t) ∙ allowed)) in
         let how : (is_opened path (site_at I i) ≡ true) ⊎ (slack_of I path d i ≤ℤ pos 0) =
-          elim (or_cases (is_opened path (site_at I i)) (int_le (slack_of I path d i) (pos 0)) spent) [
-            | inl opened ↦ inl opened
-            | inr nothing ↦ inr (int_le-less (slack_of I path d i) (pos 0) nothing)
-          ] in
+        elim (or_cases (is_opened path (site_at I i)) (int_le (slack_of I path d i) (pos 0)) spent) [
+          | inl opened ↦ inl opened
+          | inr nothing ↦ inr (int_le-less (slack_of I path d i) (pos 0) nothing)
+        ] in
         let one = share_falls (is_called_for path (site_at I i)) (is_closed path (site_at I i)) (slack_of I path d i) (slack_of I path (risen I path d j r) i) r not_closed low fell how in
         let shares = total_lower (share_of I path (risen I path d j r)) (share_of I path d) (length I.sites) i r b (λ k _. share_down k) one in
         let values = total_changed (v_at (risen I path d j r)) (v_at d) (length I.customers) j known (λ k _ other. v_other I path d j r k other) in

@@ -1,24 +1,22 @@
 -- No dual is raised past a ceiling that the levels leave room under, so that rounds end.
-use Rattle.std.proofs.Common.{◌≡◌, ◌≢◌, ℕ, ◌*◌, ◌+◌, zero, suc, ◌<◌, ◌≤◌, refl, sym, ap, subst, ◌∙◌, inl, inr, arith, Bool, true, false, length, get_or, List, [], ◌∷◌, Option, Some, None, unwrap_or, ℤ, pos, ◌+ℤ◌, ◌-ℤ◌, ◌≤ℤ◌, ◌<ℤ◌}
-use Rattle.std.specs.Prelude.{◌⊎◌, ◌||◌, ◌==◌, ⊤, All, MatchOption, if◌then◌else◌}
-use Rattle.std.specs.List.{fold, list_any, range_with_len}
+use Rattle.std.proofs.Common.{◌≡◌, ℕ, ◌*◌, ◌<◌, sym, ap, subst, ◌∙◌, inl, inr, arith, Bool, true, false, length, get_or, List, Option, Some, None, unwrap_or, ℤ, pos, ◌+ℤ◌, ◌-ℤ◌, ◌≤ℤ◌}
+use Rattle.std.specs.Prelude.{◌==◌, ⊤, All, MatchOption, if◌then◌else◌}
+use Rattle.std.specs.List.{list_any, range_with_len}
 use Rattle.std.specs.Int.{int_max}
 use Rattle.std.proofs.lemmas.Int.{ints, clamps}
 use Rattle.std.proofs.lemmas.Bool.{cases_Bool, cases_eq, eqb-false, false≢true}
-use Rattle.std.proofs.lemmas.List.Elements.{All-head, All-tail, All-map, All-get_or, All-filter, All-from_get_or, filter_passes}
+use Rattle.std.proofs.lemmas.List.Elements.{All-map, All-get_or, All-filter, All-from_get_or, filter_passes}
 use Rattle.std.proofs.lemmas.List.FromFn.{get_or-range_with_len, length-range_with_len}
 use Rattle.std.proofs.lemmas.List.{get_or-set_same, get_or-set_other}
 use Rattle.location_terms.specs.Instance.{Instance, site_at, customer_at}
 use Rattle.location_terms.specs.Box.{Path, is_allowed}
-use Rattle.location_terms.specs.Bound.{Duals, v_at, u_at, level_at, paid_at, cap_price, total, slack_of}
-use Rattle.location_terms.proofs.Totals.{total_le, total_part}
+use Rattle.location_terms.specs.Bound.{Duals, v_at, level_at, paid_at, slack_of}
+use Rattle.location_terms.proofs.Totals.{total_part}
 use Rattle.dual_ascent.specs.Levels.{site_places, servers, levels_of, least_level, reached}
-use Rattle.dual_ascent.specs.Ascent.{is_spent, is_blocked, with_v, seated, raised, round, rounds, IsAscendedOver}
-use Rattle.dual_ascent.proofs.Fair.{v_here, v_other}
+use Rattle.dual_ascent.specs.Ascent.{is_spent, is_blocked, with_v, seated, raised}
 use Rattle.dual_ascent.proofs.Tested.{neither}
-use Rattle.dual_ascent.proofs.Rise.{least_among, rise, rise_positive, rise_leaves}
-use Rattle.dual_ascent.proofs.Raised.{IsRisen, seated_is_risen, raised_is_risen, raised_blocked, raised_free}
-use Rattle.dual_ascent.proofs.Rounds.{AreKnown, value_sum, seats_are_risen, round_is_risen, round_moves}
+use Rattle.dual_ascent.proofs.Rise.{least_among, rise, rise_leaves}
+use Rattle.dual_ascent.proofs.Raised.{IsRisen, raised_blocked, raised_free}
 
 -- what is paid above a level is no less than nothing
 paid_at_least : (allowed : Bool) (v level : ℤ) → pos 0 ≤ℤ (if allowed then int_max (pos 0) (v -ℤ level) else pos 0)

@@ -1,6 +1,6 @@
 -- One customer's dual raised alone, by no more than each of its lanes leaves: the slacks that fall stay at 0 or more, no
 -- site's share changes, and the bound rises by as much.
-use Rattle.std.proofs.Common.{◌≡◌, ◌≢◌, ℕ, ◌<◌, refl, sym, subst, ap, ◌∙◌, inl, inr, arith, Bool, true, false, length, List, ℤ, pos, ◌+ℤ◌, ◌-ℤ◌, ◌≤ℤ◌}
+use Rattle.std.proofs.Common.{◌≡◌, ◌≢◌, ℕ, ◌<◌, refl, sym, subst, ap, inl, inr, arith, Bool, true, false, length, List, ℤ, pos, ◌+ℤ◌, ◌-ℤ◌, ◌≤ℤ◌}
 use Rattle.std.specs.Prelude.{◌⊎◌, if◌then◌else◌}
 use Rattle.std.specs.Int.{int_max, int_min}
 use Rattle.std.proofs.lemmas.Int.{ints, clamps}

@@ -1,11 +1,11 @@
 -- Which duals the ascent leaves as they were: those of customers without an allowed lane, and those that it passes over.
-use Rattle.std.proofs.Common.{◌≡◌, ◌≢◌, ℕ, zero, suc, refl, sym, ap, map, Option, None, ◌∙◌, inl, inr, arith, Bool, true, false, length, List, [], ◌∷◌, ℤ, pos}
-use Rattle.std.specs.Prelude.{◌⊎◌, ◌||◌, ◌==◌, All, unwrap_or, if◌then◌else◌}
+use Rattle.std.proofs.Common.{◌≡◌, ◌≢◌, ℕ, zero, suc, refl, sym, ap, map, Option, None, ◌∙◌, inl, inr, arith, true, length, List, [], ◌∷◌, ℤ, pos}
+use Rattle.std.specs.Prelude.{◌⊎◌, ◌==◌, All, unwrap_or}
 use Rattle.std.specs.List.{fold, list_any}
 use Rattle.std.specs.Int.{int_max}
 use Rattle.std.proofs.lemmas.Int.{ints, clamps}
-use Rattle.std.proofs.lemmas.Bool.{cases_Bool, eq-eqb, false≢true}
-use Rattle.std.proofs.lemmas.List.{set-get_or, get_or-set_other}
+use Rattle.std.proofs.lemmas.Bool.{cases_Bool, eq-eqb}
+use Rattle.std.proofs.lemmas.List.{get_or-set_other}
 use Rattle.std.proofs.lemmas.List.Elements.{All-head, All-tail}
 use Rattle.location_terms.specs.Instance.{Instance}
 use Rattle.location_terms.specs.Box.{Path}

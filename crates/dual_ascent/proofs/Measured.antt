@@ -1,13 +1,13 @@
 -- A customer's step as one may compute it who looks at each site once: which slacks fall, how far the dual rises, and
 -- whether the customer is blocked.
-use Rattle.std.proofs.Common.{◌≡◌, ◌≢◌, ℕ, ◌+◌, ◌<◌, zero, refl, sym, ap, subst, ◌∙◌, inl, inr, arith, Bool, true, false, cond, List, [], ◌∷◌, ◌++◌, map, length, get_or, Option, Some, None, option_map, unwrap_or, ℤ, pos, ◌+ℤ◌, ◌-ℤ◌, ◌≤ℤ◌, ◌<ℤ◌}
-use Rattle.std.specs.Prelude.{◌⊎◌, ◌||◌, ◌==◌, ⊤, All, MatchOption, filter, int_lt, int_le, if◌then◌else◌}
+use Rattle.std.proofs.Common.{◌≡◌, ◌≢◌, ℕ, ◌+◌, ◌<◌, refl, sym, ap, ◌∙◌, inl, inr, arith, Bool, true, false, cond, List, [], ◌∷◌, ◌++◌, map, length, get_or, Option, Some, None, option_map, unwrap_or, ℤ, pos, ◌+ℤ◌, ◌-ℤ◌, ◌≤ℤ◌, ◌<ℤ◌}
+use Rattle.std.specs.Prelude.{◌⊎◌, ◌==◌, ⊤, All, MatchOption, filter, int_lt, int_le, if◌then◌else◌}
 use Rattle.std.specs.List.{fold, list_any, range_with_len}
 use Rattle.std.specs.Int.{int_max}
 use Rattle.std.proofs.lemmas.Int.{ints, clamps}
 use Rattle.std.proofs.lemmas.Bool.{false≢true, cases_Bool, ne_eqb, eq-eqb}
 use Rattle.std.proofs.lemmas.List.{map-id}
-use Rattle.std.proofs.lemmas.List.Elements.{All-nil, All-map, All-weaker, All-filter, filter_passes}
+use Rattle.std.proofs.lemmas.List.Elements.{All-map, All-filter, filter_passes}
 use Rattle.std.proofs.lemmas.List.Folds.{list_any_none}
 use Rattle.std.proofs.lemmas.List.FromFn.{filter_of_map_range_with_len_more}
 use Rattle.std.proofs.lemmas.List.Sums.{fold-append}
@@ -17,7 +17,7 @@ use Rattle.location_terms.specs.Bound.{Duals, v_at, level_at, paid_at, slack_of}
 use Rattle.dual_ascent.specs.Levels.{least, site_places, servers, levels_of, next_level, reached}
 use Rattle.dual_ascent.specs.Ascent.{is_spent, is_blocked, lesser}
 use Rattle.dual_ascent.proofs.Picked.{all_picked, all_places}
-use Rattle.dual_ascent.proofs.Fair.{Leaves, risen, v_here, v_other, total_changed}
+use Rattle.dual_ascent.proofs.Fair.{risen, v_here, v_other, total_changed}
 use Rattle.dual_ascent.proofs.Rise.{least_among, rise, rise_positive, rise_leaves}
 use Rattle.dual_ascent.proofs.Tested.{int_lt-less, int_le-less, neither, or_neither}
 use Rattle.dual_ascent.proofs.Ceiling.{places_below}
@@ -147,7 +147,7 @@ module _ (I : Instance) (path : Path) (d : Duals) (j : ℕ) where
       let some : length (servers I path j) ≢ 0 = λ none. all_places (λ k. A k ≡ true → ⊥) (length I.sites) i (all_picked (λ k. ⊥) A (site_places I) (λ k x inside. omega (arith, none, inside))) b allowed in
       let Fresh : ℕ → Type 0 = λ k. level_at I d k j ≤ℤ v_at d j → is_spent I path d k ≡ false in
       let all_fresh : All (λ k. is_spent I path d k ≡ false) (reached I path d j) =
-        picked_all Fresh (λ k. is_spent I path d k ≡ false) (λ k. int_le (level_at I d k j) (v_at d j)) (servers I path j) (λ k h e. h (int_le-less (level_at I d k j) (v_at d j) e)) (picked_all (λ k. k < length I.sites) Fresh A (site_places I) (λ k c passes. fresh k c passes) (places_below (length I.sites))) in
+      picked_all Fresh (λ k. is_spent I path d k ≡ false) (λ k. int_le (level_at I d k j) (v_at d j)) (servers I path j) (λ k h e. h (int_le-less (level_at I d k j) (v_at d j) e)) (picked_all (λ k. k < length I.sites) Fresh A (site_places I) (λ k c passes. fresh k c passes) (places_below (length I.sites))) in
       or_neither (length (servers I path j) == 0) (list_any (is_spent I path d) (reached I path d j)) (ne_eqb (length (servers I path j)) 0 some) (list_any_none (is_spent I path d) (reached I path d j) all_fresh)
 
   -- and one without an allowed lane is blocked
@@ -166,5 +166,5 @@ pub fold_next : {X : Type 0} (step : X → ℕ → X) (p : ℕ → Bool) (x : X)
 fold_next step p x k =
     let same : (n : ℕ) → map (λ i. i) (range_with_len 0 n) ≡ range_with_len 0 n = λ n. map-id (range_with_len 0 n) in
     let more : filter p (range_with_len 0 (k + 1)) ≡ filter p (range_with_len 0 k) ++ cond (p k) (k ∷ []) [] =
-      ap (filter p) (sym (same (k + 1))) ∙ filter_of_map_range_with_len_more p (λ i. i) 0 k k (omega arith) ∙ ap (λ (ys : List ℕ). filter p ys ++ cond (p k) (k ∷ []) []) (same k) in
+    ap (filter p) (sym (same (k + 1))) ∙ filter_of_map_range_with_len_more p (λ i. i) 0 k k (omega arith) ∙ ap (λ (ys : List ℕ). filter p ys ++ cond (p k) (k ∷ []) []) (same k) in
     ap (fold step x) more ∙ fold-append step x (filter p (range_with_len 0 k)) (cond (p k) (k ∷ []) []) ∙ last step (p k) (fold step x (filter p (range_with_len 0 k))) k

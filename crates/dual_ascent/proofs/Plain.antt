@@ -1,5 +1,5 @@
 -- The ascent from zeros: its duals, its slacks and its bound are 0 or more.
-use Rattle.std.proofs.Common.{◌≡◌, ℕ, ◌*◌, ◌<◌, ◌≤◌, refl, sym, ap, ◌∙◌, inl, inr, arith, Bool, true, false, length, replicate, Option, Some, None, ℤ, pos, ◌+ℤ◌, ◌-ℤ◌, ◌≤ℤ◌}
+use Rattle.std.proofs.Common.{◌≡◌, ℕ, ◌*◌, ◌<◌, ◌≤◌, refl, ap, ◌∙◌, arith, Bool, true, false, length, replicate, Option, Some, None, ℤ, pos, ◌-ℤ◌, ◌≤ℤ◌}
 use Rattle.std.specs.Prelude.{All, unsigned_abs, if◌then◌else◌}
 use Rattle.std.specs.Int.{int_max, int_min}
 use Rattle.std.proofs.lemmas.Int.{ints, clamps}
@@ -7,8 +7,8 @@ use Rattle.std.proofs.lemmas.List.{length-replicate, get_or-replicate}
 use Rattle.std.proofs.lemmas.List.Elements.{All-replicate}
 use Rattle.location_terms.specs.Instance.{Instance, IsValid, site_at, customer_at}
 use Rattle.location_terms.specs.Box.{Path, is_allowed, is_opened, is_free}
-use Rattle.location_terms.specs.Bound.{Duals, AreDualsOf, v_at, u_at, level_at, paid_at, cap_price, total, slack_of, share_of, count_price, bound_of}
-use Rattle.location_terms.specs.Fit.{AreInLimits, DualsFit, AreTame}
+use Rattle.location_terms.specs.Bound.{Duals, AreDualsOf, v_at, u_at, paid_at, cap_price, slack_of, share_of, bound_of}
+use Rattle.location_terms.specs.Fit.{AreInLimits, AreTame}
 use Rattle.location_terms.specs.declared.limits.TheConstants.{MAX_SCALE, MAX_VALUE, MAX_TAME, MAX_MULTIPLIER}
 use Rattle.location_terms.proofs.Totals.{total_zero, total_le}
 use Rattle.dual_ascent.specs.Ascent.{IsAscended}
@@ -53,9 +53,9 @@ module _ (I : Instance) (path : Path) (q : ℕ) where
     pub zeros_are_tame : AreTame I (zeros I q)
     zeros_are_tame =
         let in_limits : AreInLimits (zeros I q) =
-          record { scale = small; count_price = omega arith; values = All-replicate (λ v. unsigned_abs v ≤ MAX_VALUE) (length I.customers) (pos 0) (omega arith); multipliers = All-replicate (λ u. u ≤ MAX_MULTIPLIER) (length I.sites) 0 (omega arith) } in
+        record { scale = small; count_price = omega arith; values = All-replicate (λ v. unsigned_abs v ≤ MAX_VALUE) (length I.customers) (pos 0) (omega arith); multipliers = All-replicate (λ u. u ≤ MAX_MULTIPLIER) (length I.sites) 0 (omega arith) } in
         let of_instance : AreDualsOf I (zeros I q) =
-          record { customers = length-replicate (length I.customers) (pos 0); sites = length-replicate (length I.sites) 0; unpriced = λ i b _. zero_u i b } in
+        record { customers = length-replicate (length I.customers) (pos 0); sites = length-replicate (length I.sites) 0; unpriced = λ i b _. zero_u i b } in
         record { fit = record { in_limits = in_limits; of_instance = of_instance }; scaled = scaled; count_price = omega arith; demand_prices = All-replicate (λ u. All (λ c. u * c.demand ≤ MAX_TAME) I.customers) (length I.sites) 0 (λ k d b. omega arith) }
 
     module _ (valid : IsValid I) (e : Duals) (asc : IsAscended I path (zeros I q) e) where

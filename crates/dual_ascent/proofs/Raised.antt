@@ -1,20 +1,19 @@
 -- What one customer's step of the ascent keeps: seated or raised, the scale and the prices stay, no dual is lower, no slack
 -- falls below 0, and the bound rises by what the duals rise.
-use Rattle.std.proofs.Common.{◌≡◌, ◌≢◌, ℕ, ◌<◌, refl, sym, ap, subst, ◌∙◌, inl, inr, arith, Bool, true, false, length, Option, Some, None, unwrap_or, List, ℤ, pos, ◌+ℤ◌, ◌-ℤ◌, ◌≤ℤ◌, ◌<ℤ◌}
-use Rattle.std.specs.Prelude.{◌⊎◌, ◌==◌, ◌||◌, MatchOption, All, int_lt, if◌then◌else◌}
-use Rattle.std.specs.List.{list_any}
+use Rattle.std.proofs.Common.{◌≡◌, ℕ, ◌<◌, refl, sym, ap, subst, ◌∙◌, inl, inr, arith, Bool, true, false, length, Option, Some, None, unwrap_or, ℤ, pos, ◌+ℤ◌, ◌-ℤ◌, ◌≤ℤ◌, ◌<ℤ◌}
+use Rattle.std.specs.Prelude.{MatchOption, int_lt, if◌then◌else◌}
 use Rattle.std.specs.Int.{int_max}
 use Rattle.std.proofs.lemmas.Int.{ints, clamps}
-use Rattle.std.proofs.lemmas.Bool.{cases_Bool, cases_eq, false≢true, eq-eqb}
-use Rattle.std.proofs.lemmas.List.{length-set, set-get_or}
+use Rattle.std.proofs.lemmas.Bool.{cases_Bool}
+use Rattle.std.proofs.lemmas.List.{length-set}
 use Rattle.location_terms.specs.Instance.{Instance, site_at, customer_at}
 use Rattle.location_terms.specs.Box.{Path, is_allowed}
 use Rattle.location_terms.specs.Bound.{Duals, v_at, level_at, total, slack_of, bound_of}
-use Rattle.dual_ascent.specs.Levels.{least, site_places, servers, levels_of, least_level, reached}
-use Rattle.dual_ascent.specs.Ascent.{is_spent, is_blocked, with_v, seated, raised}
+use Rattle.dual_ascent.specs.Levels.{site_places, servers, levels_of, least_level, reached}
+use Rattle.dual_ascent.specs.Ascent.{is_blocked, with_v, seated, raised}
 use Rattle.dual_ascent.proofs.Tested.{int_lt-less, int_lt-not}
 use Rattle.dual_ascent.proofs.Picked.{all_picked, all_valued, all_places}
-use Rattle.dual_ascent.proofs.Fair.{with_same, Leaves, risen, v_other, v_above, slack_stays, values_rise, bound_rises}
+use Rattle.dual_ascent.proofs.Fair.{with_same, Leaves, risen, v_above, slack_stays, values_rise, bound_rises}
 use Rattle.dual_ascent.proofs.Rise.{least_within, rise, rise_positive, rise_leaves}
 
 -- what the ascent keeps from one set of duals to the next
@@ -36,7 +35,7 @@ same_is_risen I path d =
       customers = refl;
       above = λ k. omega (arith, ints);
       slacks = λ i b h. h;
-      bound = omega (arith, ints)
+      bound = omega (arith, ints);
     }
 
 pub risen_again : (I : Instance) (path : Path) (d e f : Duals) → IsRisen I path d e → IsRisen I path e f → IsRisen I path d f
@@ -48,7 +47,7 @@ risen_again I path d e f one two =
       customers = two.customers ∙ one.customers;
       above = λ k. omega (arith, ints, one.above k, two.above k);
       slacks = λ i b h. two.slacks i b (one.slacks i b h);
-      bound = omega (arith, ints, one.bound, two.bound)
+      bound = omega (arith, ints, one.bound, two.bound);
     }
 
 -- a customer that is blocked keeps its dual, any other has risen
@@ -69,7 +68,7 @@ module _ (I : Instance) (path : Path) (d : Duals) (j : ℕ) (known : j < length 
         customers = length-set d.v j (v_at d j +ℤ r);
         above = v_above I path d j r low here;
         slacks = slack_stays I path d j r low here known leaves;
-        bound = omega (arith, ints, values_rise I path d j r low here known leaves, bound_rises I path d j r low here known leaves)
+        bound = omega (arith, ints, values_rise I path d j r low here known leaves, bound_rises I path d j r low here known leaves);
       }
 
   -- a dual below the least level leaves room up to it
@@ -78,7 +77,7 @@ module _ (I : Instance) (path : Path) (d : Duals) (j : ℕ) (known : j < length 
       let A : ℕ → Bool = λ k. is_allowed I path (site_at I k) (customer_at I j) in
       let Q : Option ℤ → ℕ → Type 0 = λ o k. MatchOption o ⊥ (λ m. m ≤ℤ level_at I d k j) in
       let within = all_places (λ k. A k ≡ true → Q (least_level I path d j) k) (length I.sites) i
-          (all_picked (Q (least_level I path d j)) A (site_places I) (all_valued (λ x. MatchOption (least_level I path d j) ⊥ (λ m. m ≤ℤ x)) (λ k. level_at I d k j) (servers I path j) (least_within (levels_of I path d j)))) b allowed in
+      (all_picked (Q (least_level I path d j)) A (site_places I) (all_valued (λ x. MatchOption (least_level I path d j) ⊥ (λ m. m ≤ℤ x)) (λ k. level_at I d k j) (servers I path j) (least_within (levels_of I path d j)))) b allowed in
       let at_most : l ≤ℤ level_at I d i j = subst (λ o. Q o i) e within in
       inl (omega (arith, ints, at_most))
 

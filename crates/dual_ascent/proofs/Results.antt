@@ -1,6 +1,6 @@
 -- What holds of the ascent's result, over all customers and apart from one.
-use Rattle.std.proofs.Common.{◌≡◌, ◌≢◌, ℕ, ◌<◌, sym, subst, inl, inr, true, length, get_or, List, ℤ, pos, ◌≤ℤ◌}
-use Rattle.std.specs.Prelude.{◌⊎◌, ◌==◌, not, All, filter}
+use Rattle.std.proofs.Common.{◌≡◌, ◌≢◌, ℕ, ◌<◌, sym, subst, inl, inr, true, length, get_or, List, pos, ◌≤ℤ◌}
+use Rattle.std.specs.Prelude.{◌==◌, not, All, filter}
 use Rattle.std.proofs.lemmas.Bool.{ne_eqb, not_from_false, eqb-false, not-true, cases_eq}
 use Rattle.std.proofs.lemmas.List.Elements.{All-filter, All-weaker, filter_passes}
 use Rattle.location_terms.specs.Instance.{Instance, IsValid}

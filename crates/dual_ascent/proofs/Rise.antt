@@ -1,10 +1,10 @@
 -- How far a customer's dual may rise: above 0 where the customer is not blocked, and no further than its lanes leave room.
 use Rattle.std.proofs.Common.{◌≡◌, ℕ, ◌<◌, refl, sym, subst, inl, inr, arith, Bool, true, false, List, [], ◌∷◌, map, length, get_or, Option, Some, None, option_map, unwrap_or, ℤ, pos, ◌+ℤ◌, ◌-ℤ◌, ◌≤ℤ◌, ◌<ℤ◌}
-use Rattle.std.specs.Prelude.{◌⊎◌, ◌||◌, ◌==◌, ⊤, All, MatchOption, filter, int_lt, int_le}
+use Rattle.std.specs.Prelude.{◌⊎◌, ◌==◌, ⊤, All, MatchOption, filter, int_lt, int_le}
 use Rattle.std.specs.List.{list_any, fold}
 use Rattle.std.specs.Int.{int_min}
 use Rattle.std.proofs.lemmas.Int.{ints, clamps, fold-int_min_bounds, fold-int_min_reached}
-use Rattle.std.proofs.lemmas.Bool.{false≢true, cases_Bool, eqb-false}
+use Rattle.std.proofs.lemmas.Bool.{cases_Bool, eqb-false}
 use Rattle.std.proofs.lemmas.List.Elements.{All-nil, All-cons, All-head, All-tail, All-map, All-weaker, All-contains, All-get_or, filter_passes}
 use Rattle.location_terms.specs.Instance.{Instance, site_at, customer_at}
 use Rattle.location_terms.specs.Box.{Path, is_allowed, is_opened}

@@ -6,8 +6,8 @@ use Rattle.std.proofs.lemmas.Nat.{mul-le}
 use Rattle.std.proofs.lemmas.List.Elements.{All-from_get_or}
 use Rattle.location_terms.specs.Instance.{Instance, IsValid, site_at, customer_at, lane}
 use Rattle.location_terms.specs.Box.{Path}
-use Rattle.location_terms.specs.Bound.{Duals, AreDualsOf, v_at, u_at, level_at}
-use Rattle.location_terms.specs.Fit.{AreInLimits, DualsFit, AreTame}
+use Rattle.location_terms.specs.Bound.{Duals, AreDualsOf, v_at, u_at}
+use Rattle.location_terms.specs.Fit.{AreInLimits, AreTame}
 use Rattle.location_terms.specs.declared.limits.TheConstants.{MAX_AMOUNT, MAX_SCALE, MAX_VALUE, MAX_TAME, MAX_MULTIPLIER}
 use Rattle.dual_value.proofs.Sizes.{abs_below, abs_above, abs_from}
 use Rattle.dual_ascent.specs.Ascent.{IsAscendedOver}
@@ -66,7 +66,7 @@ module _ (I : Instance) (path : Path) (valid : IsValid I) (d : Duals) (tame : Ar
       pub tame_stays : AreTame I e
       tame_stays =
           let in_limits : AreInLimits e =
-            record { scale = subst (λ q. q ≤ MAX_SCALE) (sym up.scale) tame.fit.in_limits.scale; count_price = subst (λ z. unsigned_abs z ≤ MAX_VALUE) (sym up.count_price) tame.fit.in_limits.count_price; values = All-from_get_or (λ v. unsigned_abs v ≤ MAX_VALUE) e.v (pos 0) e_small; multipliers = subst (λ us. All (λ u. u ≤ MAX_MULTIPLIER) us) (sym up.prices) tame.fit.in_limits.multipliers } in
+          record { scale = subst (λ q. q ≤ MAX_SCALE) (sym up.scale) tame.fit.in_limits.scale; count_price = subst (λ z. unsigned_abs z ≤ MAX_VALUE) (sym up.count_price) tame.fit.in_limits.count_price; values = All-from_get_or (λ v. unsigned_abs v ≤ MAX_VALUE) e.v (pos 0) e_small; multipliers = subst (λ us. All (λ u. u ≤ MAX_MULTIPLIER) us) (sym up.prices) tame.fit.in_limits.multipliers } in
           let of_instance : AreDualsOf I e =
-            record { customers = up.customers ∙ tame.fit.of_instance.customers; sites = subst (λ us. length us ≡ length I.sites) (sym up.prices) tame.fit.of_instance.sites; unpriced = subst (λ us. (i : ℕ) → i < length I.sites → (site_at I i).cap ≡ None → slice_index us i ≡ 0) (sym up.prices) tame.fit.of_instance.unpriced } in
+          record { customers = up.customers ∙ tame.fit.of_instance.customers; sites = subst (λ us. length us ≡ length I.sites) (sym up.prices) tame.fit.of_instance.sites; unpriced = subst (λ us. (i : ℕ) → i < length I.sites → (site_at I i).cap ≡ None → slice_index us i ≡ 0) (sym up.prices) tame.fit.of_instance.unpriced } in
           record { fit = record { in_limits = in_limits; of_instance = of_instance }; scaled = subst (λ q. 1 ≤ q) (sym up.scale) tame.scaled; count_price = subst (λ z. unsigned_abs z ≤ MAX_TAME) (sym up.count_price) tame.count_price; demand_prices = subst (λ us. All (λ u. All (λ c. u * c.demand ≤ MAX_TAME) I.customers) us) (sym up.prices) tame.demand_prices }

@@ -1,6 +1,6 @@
 -- A round made customer by customer, in the order of the places, by one who passes over those that a test does not pick.
-use Rattle.std.proofs.Common.{◌≡◌, ℕ, ◌+◌, ◌<◌, ◌≤◌, refl, ap, ◌∙◌, arith, Bool, true, cond, List, [], ◌∷◌, length, ℤ, pos, negsuc, ◌+ℤ◌, ◌≤ℤ◌, ◌<ℤ◌}
-use Rattle.std.specs.Prelude.{◌⊎◌, All, filter}
+use Rattle.std.proofs.Common.{◌≡◌, ℕ, ◌+◌, ◌<◌, ◌≤◌, refl, ap, arith, Bool, true, cond, List, [], ◌∷◌, length, ℤ, pos, negsuc, ◌≤ℤ◌, ◌<ℤ◌}
+use Rattle.std.specs.Prelude.{◌⊎◌, filter}
 use Rattle.std.specs.List.{fold, range_with_len}
 use Rattle.std.specs.Int.{int_gap}
 use Rattle.std.proofs.lemmas.Int.{ints}
@@ -12,7 +12,7 @@ use Rattle.location_terms.proofs.Totals.{total_le}
 use Rattle.dual_ascent.specs.Levels.{customer_places}
 use Rattle.dual_ascent.specs.Ascent.{seated, raised, round}
 use Rattle.dual_ascent.proofs.Raised.{IsRisen}
-use Rattle.dual_ascent.proofs.Rounds.{AreKnown, value_sum, seats_are_risen, raises_are_risen, raises_move, round_is_risen, round_moves}
+use Rattle.dual_ascent.proofs.Rounds.{AreKnown, value_sum, seats_are_risen, raises_are_risen, raises_move}
 use Rattle.dual_ascent.proofs.Ceiling.{HasRoom, IsUnder, places_below}
 use Rattle.dual_ascent.proofs.Ends.{round_under}
 use Rattle.dual_ascent.proofs.Measured.{fold_next}
