@@ -1,20 +1,20 @@
 -- A violating customer's dual has a level below it; from tame duals each candidate exists, is one, and keeps what ascents keep.
-use Rattle.std.proofs.Common.{◌≡◌, ℕ, zero, suc, ◌<◌, ◌≤◌, refl, sym, ap, subst, ◌∙◌, inl, inr, arith, Bool, true, false, length, get_or, List, [], ◌∷◌, map, Option, Some, None, unwrap_or, ℤ, pos, ◌+ℤ◌, ◌≤ℤ◌, ◌<ℤ◌}
+use Rattle.std.proofs.Common.{◌≡◌, ℕ, zero, suc, ◌<◌, ◌≤◌, refl, sym, ap, subst, ◌∙◌, inl, inr, arith, Bool, true, length, get_or, List, [], ◌∷◌, Option, Some, None, unwrap_or, ℤ, pos, ◌≤ℤ◌, ◌<ℤ◌}
 use Rattle.std.specs.Prelude.{◌⊎◌, ◌==◌, ◌&&◌, ⊤, All, MatchOption, filter, int_lt, unsigned_abs}
 use Rattle.std.specs.List.{fold, list_any}
 use Rattle.std.specs.Int.{int_max}
 use Rattle.std.proofs.lemmas.Int.{ints, fold-int_max_reached}
 use Rattle.std.proofs.lemmas.Bool.{and_parts, ltb-true}
 use Rattle.std.proofs.lemmas.List.{length-set}
-use Rattle.std.proofs.lemmas.List.Elements.{All-head, All-tail, All-contains, All-map, All-weaker, All-get_or, All-filter, All-set, filter_passes}
-use Rattle.location_terms.specs.Instance.{Instance, IsValid, site_at, customer_at}
+use Rattle.std.proofs.lemmas.List.Elements.{All-head, All-tail, All-contains, All-map, All-get_or, All-filter, All-set, filter_passes}
+use Rattle.location_terms.specs.Instance.{Instance, IsValid, site_at}
 use Rattle.location_terms.specs.Box.{Path}
 use Rattle.location_terms.specs.Bound.{Duals, AreDualsOf, v_at, level_at, bound_of}
-use Rattle.location_terms.specs.Fit.{AreInLimits, DualsFit, AreTame}
+use Rattle.location_terms.specs.Fit.{AreInLimits, AreTame}
 use Rattle.location_terms.specs.declared.limits.TheConstants.{MAX_VALUE}
-use Rattle.dual_value.proofs.Sizes.{abs_below, abs_above, abs_from}
+use Rattle.dual_value.proofs.Sizes.{abs_below, abs_from}
 use Rattle.dual_ascent.specs.Levels.{servers, levels_of}
-use Rattle.dual_ascent.specs.Ascent.{IsBlocked, IsAscended, IsAscendedApart}
+use Rattle.dual_ascent.specs.Ascent.{IsBlocked, IsAscended}
 use Rattle.dual_ascent.proofs.Tested.{int_lt-less}
 use Rattle.dual_ascent.proofs.Picked.{all_picked, all_valued}
 use Rattle.dual_ascent.proofs.Rounds.{one_ascent}
@@ -69,7 +69,7 @@ module _ (I : Instance) (path : Path) (d : Duals) (j : ℕ) where
             (found.0, found.1, subst (λ o. MatchOption o ⊤ (λ l. l <ℤ v_at d j)) found.1 less)
         | inr none ↦
             let no_server : All (λ i. below (level_at I d i j) ≡ true → ⊥) (servers I path j) =
-              all_valued (λ l. below l ≡ true → ⊥) (λ i. level_at I d i j) (servers I path j) (all_picked (λ l. ⊥) below (levels_of I path d j) (none_of_none lower_levels none)) in
+            all_valued (λ l. below l ≡ true → ⊥) (λ i. level_at I d i j) (servers I path j) (all_picked (λ l. ⊥) below (levels_of I path d j) (none_of_none lower_levels none)) in
             let i : ℕ = get_or (paid_sites I path d sites j) 0 0 in
             let some : 0 < length (paid_sites I path d sites j) = omega (arith, two) in
             let passes = All-get_or (λ k. pays k ≡ true) (paid_sites I path d sites j) 0 0 some (filter_passes pays (servers I path j)) in
@@ -92,9 +92,9 @@ module _ (I : Instance) (path : Path) (d : Duals) (j : ℕ) where
         let value : ℤ = unwrap_or (greatest lower_levels) (v_at d j) in
         let small : unsigned_abs value ≤ MAX_VALUE = lowered_small (greatest lower_levels) (greatest_among (λ l. (l <ℤ v_at d j) × (pos 0 ≤ℤ l)) lower_levels lower_levels_are) (tame.fit.in_limits.values j (pos 0) inside) in
         let in_limits : AreInLimits (lowered I path d j) =
-          record { scale = tame.fit.in_limits.scale; count_price = tame.fit.in_limits.count_price; values = All-set (λ v. unsigned_abs v ≤ MAX_VALUE) d.v j value small tame.fit.in_limits.values; multipliers = tame.fit.in_limits.multipliers } in
+        record { scale = tame.fit.in_limits.scale; count_price = tame.fit.in_limits.count_price; values = All-set (λ v. unsigned_abs v ≤ MAX_VALUE) d.v j value small tame.fit.in_limits.values; multipliers = tame.fit.in_limits.multipliers } in
         let of_instance : AreDualsOf I (lowered I path d j) =
-          record { customers = length-set d.v j value ∙ tame.fit.of_instance.customers; sites = tame.fit.of_instance.sites; unpriced = tame.fit.of_instance.unpriced } in
+        record { customers = length-set d.v j value ∙ tame.fit.of_instance.customers; sites = tame.fit.of_instance.sites; unpriced = tame.fit.of_instance.unpriced } in
         record { fit = record { in_limits = in_limits; of_instance = of_instance }; scaled = tame.scaled; count_price = tame.count_price; demand_prices = tame.demand_prices }
 
     -- there is a candidate

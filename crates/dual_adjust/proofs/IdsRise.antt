@@ -1,6 +1,6 @@
 -- The ids of picked places rise, so that tight sites and violating customers are listed in order.
-use Rattle.std.proofs.Common.{◌≡◌, ℕ, ◌+◌, ◌<◌, arith, Bool, List, map, length, get_or}
-use Rattle.std.specs.Prelude.{All, filter}
+use Rattle.std.proofs.Common.{ℕ, ◌+◌, ◌<◌, arith, Bool, List, map, length, get_or}
+use Rattle.std.specs.Prelude.{filter}
 use Rattle.std.specs.List.{range_with_len}
 use Rattle.std.specs.List.Sorted.{IsStrictlyIncreasing}
 use Rattle.std.proofs.lemmas.List.{length-map, get_or-map}
