@@ -44,6 +44,22 @@ share_falls true false s t r e low fell spent = omega (arith, ints)
 share_falls false false s t r e low fell (inl opened) = absurd (false≢true opened)
 share_falls false false s t r e low fell (inr nothing) = omega (arith, ints, clamps)
 
+-- a blocked customer with an allowed lane reaches a site that is spent
+pub blocked_reaches : (I : Instance) (path : Path) (d : Duals) (j : ℕ) → length (servers I path j) ≢ 0 → is_blocked I path d j ≡ true
+    → (i : ℕ) × (i < length I.sites) × (is_allowed I path (site_at I i) (customer_at I j) ≡ true) × (level_at I d i j ≤ℤ v_at d j) × (is_spent I path d i ≡ true)
+blocked_reaches I path d j some blocked =
+    elim (or_cases (length (servers I path j) == 0) (list_any (is_spent I path d) (reached I path d j)) blocked) [
+      | inl none ↦ absurd (some (eqb-true (length (servers I path j)) 0 none))
+      | inr spent ↦
+          let A : ℕ → Bool = λ k. is_allowed I path (site_at I k) (customer_at I j) in
+          let At : ℕ → Type 0 = λ k. (k < length I.sites) × (A k ≡ true) × (level_at I d k j ≤ℤ v_at d j) in
+          let served : All (λ k. (k < length I.sites) × (A k ≡ true)) (servers I path j) = picked_all (λ k. k < length I.sites) (λ k. (k < length I.sites) × (A k ≡ true)) A (site_places I) (λ k c passes. (c, passes)) (places_below (length I.sites)) in
+          let all_at : All At (reached I path d j) = picked_all (λ k. (k < length I.sites) × (A k ≡ true)) At (λ k. int_le (level_at I d k j) (v_at d j)) (servers I path j) (λ k h e. (h.0, h.1, int_le-less (level_at I d k j) (v_at d j) e)) served in
+          let found : Any (λ k. is_spent I path d k ≡ true) (reached I path d j) = Any-from_list_any (is_spent I path d) (reached I path d j) spent in
+          let at : At found.1 = subst At found.3 (all_at found.0 found.1 found.2) in
+          (found.1, at.0, at.1, at.2, found.4)
+    ]
+
 module _ (I : Instance) (path : Path) (d : Duals) (j : ℕ) (here : j < length d.v) (known : j < length I.customers) where
   -- a customer that is not blocked can rise and make the bound greater
   pub free_gains : is_blocked I path d j ≡ false → (r : ℤ) × (pos 0 <ℤ r) × (bound_of I path d <ℤ bound_of I path (risen I path d j r))
@@ -79,14 +95,5 @@ module _ (I : Instance) (path : Path) (d : Duals) (j : ℕ) (here : j < length d
     -- no rise of a blocked customer's dual gains, where some lane to it is allowed
     pub blocked_gains_nothing : length (servers I path j) ≢ 0 → is_blocked I path d j ≡ true → bound_of I path (risen I path d j r) ≤ℤ bound_of I path d
     blocked_gains_nothing some blocked =
-        elim (or_cases (length (servers I path j) == 0) (list_any (is_spent I path d) (reached I path d j)) blocked) [
-          | inl none ↦ absurd (some (eqb-true (length (servers I path j)) 0 none))
-          | inr spent ↦
-              let A : ℕ → Bool = λ k. is_allowed I path (site_at I k) (customer_at I j) in
-              let At : ℕ → Type 0 = λ k. (k < length I.sites) × (A k ≡ true) × (level_at I d k j ≤ℤ v_at d j) in
-              let served : All (λ k. (k < length I.sites) × (A k ≡ true)) (servers I path j) = picked_all (λ k. k < length I.sites) (λ k. (k < length I.sites) × (A k ≡ true)) A (site_places I) (λ k c passes. (c, passes)) (places_below (length I.sites)) in
-              let all_at : All At (reached I path d j) = picked_all (λ k. (k < length I.sites) × (A k ≡ true)) At (λ k. int_le (level_at I d k j) (v_at d j)) (servers I path j) (λ k h e. (h.0, h.1, int_le-less (level_at I d k j) (v_at d j) e)) served in
-              let found : Any (λ k. is_spent I path d k ≡ true) (reached I path d j) = Any-from_list_any (is_spent I path d) (reached I path d j) spent in
-              let at : At found.1 = subst At found.3 (all_at found.0 found.1 found.2) in
-              spent_stops found.1 at.0 at.1 at.2 found.4
-        ]
+        let spent = blocked_reaches I path d j some blocked in
+        spent_stops spent.0 spent.1 spent.2 spent.3 spent.4

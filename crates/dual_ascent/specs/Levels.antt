@@ -12,10 +12,11 @@ abbrev pub least : List ℤ → Option ℤ
 least [] = None
 least (x ∷ xs) = Some (fold int_min x xs)
 
--- the places of the sites and of the customers, in the order of the instance
+-- the places of the sites, in the order of the instance
 abbrev pub site_places : Instance → List ℕ
 site_places I = range_with_len 0 (length I.sites)
 
+-- the places of the customers, in the order of the instance
 abbrev pub customer_places : Instance → List ℕ
 customer_places I = range_with_len 0 (length I.customers)
 
@@ -27,10 +28,11 @@ servers I path j = filter (λ i. is_allowed I path (site_at I i) (customer_at I 
 abbrev pub levels_of : Instance → Path → Duals → ℕ → List ℤ
 levels_of I path d j = map (λ i. level_at I d i j) (servers I path j)
 
--- the least of them, and the least above the customer's dual, where there is one
+-- the least of these levels, where there is one
 abbrev pub least_level : Instance → Path → Duals → ℕ → Option ℤ
 least_level I path d j = least (levels_of I path d j)
 
+-- the customer's next level: the least above its dual, where there is one
 abbrev pub next_level : Instance → Path → Duals → ℕ → Option ℤ
 next_level I path d j = least (filter (λ l. int_lt (v_at d j) l) (levels_of I path d j))
 
