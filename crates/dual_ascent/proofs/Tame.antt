@@ -47,26 +47,29 @@ module _ (I : Instance) (path : Path) (valid : IsValid I) (d : Duals) (tame : Ar
   pub tame_is_under : IsUnder I path (pos MAX_VALUE) d
   tame_is_under k b = abs_below (v_at d k) MAX_VALUE (value_small k b)
 
+  module _ (e : Duals) (up : IsRisen I path d e) (under : IsUnder I path (pos MAX_VALUE) e) where
+    e_small : (k : ℕ) → k < length e.v → unsigned_abs (v_at e k) ≤ MAX_VALUE
+    e_small k b =
+        let inside : k < length I.customers = omega (arith, b, up.customers, tame.fit.of_instance.customers) in
+        let high = under k inside in
+        let low = abs_above (v_at d k) MAX_VALUE (value_small k inside) in
+        abs_from (v_at e k) MAX_VALUE high (omega (arith, ints, low, up.above k))
+
+    -- duals that rose below the greatest value are tame
+    pub tame_rises : AreTame I e
+    tame_rises =
+        let in_limits : AreInLimits e =
+        record { scale = subst (λ q. q ≤ MAX_SCALE) (sym up.scale) tame.fit.in_limits.scale; count_price = subst (λ z. unsigned_abs z ≤ MAX_VALUE) (sym up.count_price) tame.fit.in_limits.count_price; values = All-from_get_or (λ v. unsigned_abs v ≤ MAX_VALUE) e.v (pos 0) e_small; multipliers = subst (λ us. All (λ u. u ≤ MAX_MULTIPLIER) us) (sym up.prices) tame.fit.in_limits.multipliers } in
+        let of_instance : AreDualsOf I e =
+        record { customers = up.customers ∙ tame.fit.of_instance.customers; sites = subst (λ us. length us ≡ length I.sites) (sym up.prices) tame.fit.of_instance.sites; unpriced = subst (λ us. (i : ℕ) → i < length I.sites → (site_at I i).cap ≡ None → slice_index us i ≡ 0) (sym up.prices) tame.fit.of_instance.unpriced } in
+        record { fit = record { in_limits = in_limits; of_instance = of_instance }; scaled = subst (λ q. 1 ≤ q) (sym up.scale) tame.scaled; count_price = subst (λ z. unsigned_abs z ≤ MAX_TAME) (sym up.count_price) tame.count_price; demand_prices = subst (λ us. All (λ u. All (λ c. u * c.demand ≤ MAX_TAME) I.customers) us) (sym up.prices) tame.demand_prices }
+
   module _ (customers : List ℕ) (known : AreKnown I path customers) where
     pub tame_ascent_ends : (result : Duals) × IsAscendedOver I path customers d result
     tame_ascent_ends = ascent_ends I path (pos MAX_VALUE) customers known d tame.fit.of_instance.customers tame_has_room tame_is_under
 
-    module _ (e : Duals) (asc : IsAscendedOver I path customers d e) where
-      up : IsRisen I path d e
-      up = ascended_is_risen I path customers known d e tame.fit.of_instance.customers asc
-
-      e_small : (k : ℕ) → k < length e.v → unsigned_abs (v_at e k) ≤ MAX_VALUE
-      e_small k b =
-          let inside : k < length I.customers = omega (arith, b, up.customers, tame.fit.of_instance.customers) in
-          let high = ascended_under I path (pos MAX_VALUE) customers known d e tame.fit.of_instance.customers tame_has_room tame_is_under asc k inside in
-          let low = abs_above (v_at d k) MAX_VALUE (value_small k inside) in
-          abs_from (v_at e k) MAX_VALUE high (omega (arith, ints, low, up.above k))
-
-      -- the ascent's duals are tame
-      pub tame_stays : AreTame I e
-      tame_stays =
-          let in_limits : AreInLimits e =
-          record { scale = subst (λ q. q ≤ MAX_SCALE) (sym up.scale) tame.fit.in_limits.scale; count_price = subst (λ z. unsigned_abs z ≤ MAX_VALUE) (sym up.count_price) tame.fit.in_limits.count_price; values = All-from_get_or (λ v. unsigned_abs v ≤ MAX_VALUE) e.v (pos 0) e_small; multipliers = subst (λ us. All (λ u. u ≤ MAX_MULTIPLIER) us) (sym up.prices) tame.fit.in_limits.multipliers } in
-          let of_instance : AreDualsOf I e =
-          record { customers = up.customers ∙ tame.fit.of_instance.customers; sites = subst (λ us. length us ≡ length I.sites) (sym up.prices) tame.fit.of_instance.sites; unpriced = subst (λ us. (i : ℕ) → i < length I.sites → (site_at I i).cap ≡ None → slice_index us i ≡ 0) (sym up.prices) tame.fit.of_instance.unpriced } in
-          record { fit = record { in_limits = in_limits; of_instance = of_instance }; scaled = subst (λ q. 1 ≤ q) (sym up.scale) tame.scaled; count_price = subst (λ z. unsigned_abs z ≤ MAX_TAME) (sym up.count_price) tame.count_price; demand_prices = subst (λ us. All (λ u. All (λ c. u * c.demand ≤ MAX_TAME) I.customers) us) (sym up.prices) tame.demand_prices }
+    -- the ascent's duals are tame
+    pub tame_stays : (e : Duals) → IsAscendedOver I path customers d e → AreTame I e
+    tame_stays e asc =
+        tame_rises e (ascended_is_risen I path customers known d e tame.fit.of_instance.customers asc)
+        (ascended_under I path (pos MAX_VALUE) customers known d e tame.fit.of_instance.customers tame_has_room tame_is_under asc)

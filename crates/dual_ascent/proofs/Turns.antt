@@ -5,16 +5,19 @@ use Rattle.std.specs.List.{fold, range_with_len}
 use Rattle.std.specs.Int.{int_gap}
 use Rattle.std.proofs.lemmas.Int.{ints}
 use Rattle.std.proofs.lemmas.List.Elements.{All-filter, All-weaker}
-use Rattle.location_terms.specs.Instance.{Instance}
+use Rattle.location_terms.specs.Instance.{Instance, IsValid}
 use Rattle.location_terms.specs.Box.{Path}
 use Rattle.location_terms.specs.Bound.{Duals, v_at, total}
+use Rattle.location_terms.specs.Fit.{AreTame}
+use Rattle.location_terms.specs.declared.limits.TheConstants.{MAX_VALUE}
 use Rattle.location_terms.proofs.Totals.{total_le}
 use Rattle.dual_ascent.specs.Levels.{customer_places}
 use Rattle.dual_ascent.specs.Ascent.{seated, raised, round}
 use Rattle.dual_ascent.proofs.Raised.{IsRisen}
 use Rattle.dual_ascent.proofs.Rounds.{AreKnown, value_sum, seats_are_risen, raises_are_risen, raises_move}
 use Rattle.dual_ascent.proofs.Ceiling.{HasRoom, IsUnder, places_below}
-use Rattle.dual_ascent.proofs.Ends.{round_under}
+use Rattle.dual_ascent.proofs.Ends.{seats_under, round_under}
+use Rattle.dual_ascent.proofs.Tame.{tame_has_room, tame_is_under, tame_rises}
 use Rattle.dual_ascent.proofs.Measured.{fold_next}
 
 -- the test that picks all
@@ -69,6 +72,18 @@ module _ (I : Instance) (path : Path) (p : ℕ → Bool) where
     -- so far nothing changed, or the sum of the duals is greater
     pub turns_move : (turns d k ≡ d) ⊎ (value_sum I path d <ℤ value_sum I path (turns d k))
     turns_move = raises_move I path d long (first k) (first_known k b)
+
+    module _ (valid : IsValid I) (tame : AreTame I d) where
+      turns_under : IsUnder I path (pos MAX_VALUE) (turns d k)
+      unfolding round
+      turns_under = round_under I path (pos MAX_VALUE) (first k) (first_known k b) d long (tame_has_room I path valid d tame) (tame_is_under I path valid d tame)
+
+      -- the duals between two turns are tame
+      pub seats_tame : AreTame I (seats d k)
+      seats_tame = tame_rises I path valid d tame (seats d k) seats_rise (seats_under I path (pos MAX_VALUE) (first k) (first_known k b) d long (tame_has_room I path valid d tame) (tame_is_under I path valid d tame))
+
+      pub turns_tame : AreTame I (turns d k)
+      turns_tame = tame_rises I path valid d tame (turns d k) turns_rise turns_under
 
 -- what is left below a limit for all customers falls with each round that changes something
 pub left_falls : (I : Instance) (path : Path) (limit : ℤ) (customers : List ℕ) → AreKnown I path customers → (d : Duals) → length d.v ≡ length I.customers → HasRoom I path limit d → IsUnder I path limit d
