@@ -1,0 +1,50 @@
+-- The ids of picked places rise, so that tight sites and violating customers are listed in order.
+use Rattle.std.proofs.Common.{ℕ, ◌+◌, ◌<◌, arith, Bool, List, map, length, get_or}
+use Rattle.std.specs.Prelude.{filter}
+use Rattle.std.specs.List.{range_with_len}
+use Rattle.std.specs.List.Sorted.{IsStrictlyIncreasing}
+use Rattle.std.proofs.lemmas.List.{length-map, get_or-map}
+use Rattle.std.proofs.lemmas.List.Elements.{All-filter}
+use Rattle.std.proofs.lemmas.List.FromFn.{get_or-range_with_len, length-range_with_len}
+use Rattle.std.proofs.lemmas.List.Kept.{AllPairs-from_increasing, IsStrictlyIncreasing-filter}
+use Rattle.location_terms.specs.Instance.{Instance, IsValid, site_ids, customer_ids, site_at, customer_at}
+use Rattle.location_terms.specs.Box.{Path}
+use Rattle.location_terms.specs.Bound.{Duals}
+use Rattle.location_terms.proofs.Places.{length-site_ids, length-customer_ids, slice_index-site_ids, slice_index-customer_ids}
+use Rattle.dual_ascent.proofs.Ceiling.{places_below}
+use Rattle.dual_adjust.specs.Slackness.{is_tight, tight_sites, is_violating, violations}
+
+places_rise : (n : ℕ) → IsStrictlyIncreasing (range_with_len 0 n)
+places_rise n k b =
+    let inside : k + 1 < n = omega (arith, b, length-range_with_len 0 n) in
+    omega (arith, inside, get_or-range_with_len 0 n k 0 (omega arith), get_or-range_with_len 0 n (k + 1) 0 inside)
+
+-- numbers that rise with the places rise where some places are picked
+picked_rise : (f : ℕ → ℕ) (n : ℕ) → ((i k : ℕ) → i < k → k < n → f i < f k) → (p : ℕ → Bool) → IsStrictlyIncreasing (map f (filter p (range_with_len 0 n)))
+picked_rise f n rises p k b =
+    let ps : List ℕ = filter p (range_with_len 0 n) in
+    let next : k + 1 < length ps = omega (arith, b, length-map ps f) in
+    let this : k < length ps = omega (arith, next) in
+    let more : get_or ps k 0 < get_or ps (k + 1) 0 = IsStrictlyIncreasing-filter p (range_with_len 0 n) (places_rise n) k next in
+    let inside : get_or ps (k + 1) 0 < n = All-filter p (λ i. i < n) (range_with_len 0 n) (places_below n) (k + 1) 0 next in
+    let up : f (get_or ps k 0) < f (get_or ps (k + 1) 0) = rises (get_or ps k 0) (get_or ps (k + 1) 0) more inside in
+    omega (arith, up, get_or-map f ps k 0 0 this, get_or-map f ps (k + 1) 0 0 next)
+
+module _ (I : Instance) (path : Path) (d : Duals) (valid : IsValid I) where
+  sites_rise : (i k : ℕ) → i < k → k < length I.sites → (site_at I i).id < (site_at I k).id
+  sites_rise i k before b =
+      let inside : k < length (site_ids I) = omega (arith, b, length-site_ids I) in
+      let h : get_or (site_ids I) i 0 < get_or (site_ids I) k 0 = AllPairs-from_increasing (site_ids I) valid.sites_named.rising i k 0 before inside in
+      omega (arith, h, slice_index-site_ids I i (omega arith), slice_index-site_ids I k b)
+
+  customers_rise : (i k : ℕ) → i < k → k < length I.customers → (customer_at I i).id < (customer_at I k).id
+  customers_rise i k before b =
+      let inside : k < length (customer_ids I) = omega (arith, b, length-customer_ids I) in
+      let h : get_or (customer_ids I) i 0 < get_or (customer_ids I) k 0 = AllPairs-from_increasing (customer_ids I) valid.customers_named.rising i k 0 before inside in
+      omega (arith, h, slice_index-customer_ids I i (omega arith), slice_index-customer_ids I k b)
+
+  pub tight_sites_rise : IsStrictlyIncreasing (tight_sites I path d)
+  tight_sites_rise = picked_rise (λ i. (site_at I i).id) (length I.sites) sites_rise (is_tight I path d)
+
+  pub violations_rise : (sites : List ℕ) → IsStrictlyIncreasing (violations I path d sites)
+  violations_rise sites = picked_rise (λ j. (customer_at I j).id) (length I.customers) customers_rise (is_violating I path d sites)

@@ -1,0 +1,2 @@
+pub mod Slackness
+pub mod Adjustment

@@ -1,0 +1,16 @@
+pub mod Tested
+pub mod Fair
+pub mod Picked
+pub mod Rise
+pub mod Raised
+pub mod Rounds
+pub mod Ceiling
+pub mod Ends
+pub mod Tame
+pub mod Kept
+pub mod Results
+pub mod Measured
+pub mod Again
+pub mod Plain
+pub mod Blocked
+pub mod Turns
