@@ -1,3 +1,3 @@
-pub mod Candidates
+pub mod Lowered
 pub mod IdsRise
 pub mod Tight

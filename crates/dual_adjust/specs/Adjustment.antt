@@ -15,7 +15,7 @@ abbrev pub greatest : List ℤ → Option ℤ
 greatest [] = None
 greatest (x ∷ xs) = Some (fold int_max x xs)
 
--- the duals with the customer's at its greatest level below, where there is one
+-- the duals with the customer's at its greatest level below it, where there is one
 abbrev pub lowered : Instance → Path → Duals → ℕ → Duals
 lowered I path d j = with_v d j (unwrap_or (greatest (filter (λ l. int_lt l (v_at d j)) (levels_of I path d j))) (v_at d j))
 
@@ -25,6 +25,7 @@ IsCandidate I path d j result = (risen : Duals) × IsAscendedApart I path j (low
 
 -- lowering some customer that violates complementary slackness with the tight sites leads to a greater bound
 pub record Gains (I : Instance) (path : Path) (d : Duals) : Type 0 where
+  -- by its place
   pub customer : ℕ
   pub within : customer < length I.customers
   pub violating : IsTrue (is_violating I path d (tight_sites I path d) customer)

@@ -12,7 +12,8 @@ use Rattle.location_terms.specs.Fit.{AreInLimits, AreTame}
 use Rattle.location_terms.specs.declared.limits.TheConstants.{MAX_SCALE, MAX_VALUE, MAX_TAME, MAX_MULTIPLIER}
 use Rattle.location_terms.proofs.Totals.{total_zero, total_le}
 use Rattle.dual_ascent.specs.Ascent.{IsAscended}
-use Rattle.dual_ascent.proofs.Results.{Keeps, ascended_keeps}
+use Rattle.dual_ascent.specs.Kept.{Keeps}
+use Rattle.dual_ascent.proofs.Results.{ascended_keeps}
 
 -- duals of 0 at this scale
 abbrev pub zeros : Instance → ℕ → Duals

@@ -1,31 +1,21 @@
 -- What holds of the ascent's result, over all customers and apart from one.
-use Rattle.std.proofs.Common.{◌≡◌, ◌≢◌, ℕ, ◌<◌, sym, subst, inl, inr, true, length, get_or, List, pos, ◌≤ℤ◌}
+use Rattle.std.proofs.Common.{◌≡◌, ◌≢◌, ℕ, ◌<◌, sym, subst, inl, inr, true, length, get_or, List}
 use Rattle.std.specs.Prelude.{◌==◌, not, All, filter}
 use Rattle.std.proofs.lemmas.Bool.{ne_eqb, not_from_false, eqb-false, not-true, cases_eq}
 use Rattle.std.proofs.lemmas.List.Elements.{All-filter, All-weaker, filter_passes}
 use Rattle.location_terms.specs.Instance.{Instance, IsValid}
 use Rattle.location_terms.specs.Box.{Path}
-use Rattle.location_terms.specs.Bound.{Duals, v_at, slack_of, bound_of}
+use Rattle.location_terms.specs.Bound.{Duals, v_at}
 use Rattle.location_terms.specs.Fit.{AreTame}
-use Rattle.dual_ascent.specs.Levels.{customer_places, servers}
+use Rattle.dual_ascent.specs.Levels.{customer_places}
 use Rattle.dual_ascent.specs.Ascent.{is_blocked, IsBlocked, IsBlockedApart, IsAscendedOver, IsAscended, IsAscendedApart}
+use Rattle.dual_ascent.specs.Kept.{Keeps}
 use Rattle.dual_ascent.proofs.Picked.{all_picked, all_places}
 use Rattle.dual_ascent.proofs.Raised.{IsRisen}
 use Rattle.dual_ascent.proofs.Rounds.{AreKnown, bound_is_risen, ascended_is_risen, ascended_blocks}
 use Rattle.dual_ascent.proofs.Ceiling.{places_below}
 use Rattle.dual_ascent.proofs.Tame.{tame_ascent_ends, tame_stays}
 use Rattle.dual_ascent.proofs.Kept.{IsUnserved, Spares, ascent_spares}
-
--- what each ascent of duals keeps of them
-pub record Keeps (I : Instance) (path : Path) (start result : Duals) : Type 0 where
-  pub scale : result.q ≡ start.q
-  pub count_price : result.nu ≡ start.nu
-  pub prices : result.u ≡ start.u
-  pub tame : AreTame I result
-  pub no_lower : (k : ℕ) → v_at start k ≤ℤ v_at result k
-  pub bound : bound_of I path start ≤ℤ bound_of I path result
-  pub slacks : (i : ℕ) → i < length I.sites → pos 0 ≤ℤ slack_of I path start i → pos 0 ≤ℤ slack_of I path result i
-  pub unserved : (k : ℕ) → length (servers I path k) ≡ 0 → v_at result k ≡ v_at start k
 
 module _ (I : Instance) (path : Path) where
   -- all customers, and all but one

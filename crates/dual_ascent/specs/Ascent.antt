@@ -1,4 +1,4 @@
--- The dual ascent: customer by customer, round after round, a dual rises as far as that alone gains.
+-- The dual ascent: customer by customer, round after round, a dual rises to its customer's next level, or by the slack that its sites have left.
 -- After Erlenkotter, Operations Research 26 (1978). Every slack is added anew.
 use Rattle.std.specs.Prelude.{◌≡◌, ℕ, ◌<◌, ◌≢◌, ◌==◌, ◌||◌, not, zero, suc, Bool, IsTrue, List, length, map, filter, slice_set, Option, None, Some, option_map, unwrap_or, ℤ, pos, ◌+ℤ◌, ◌-ℤ◌, int_le, if◌then◌else◌}
 use Rattle.std.specs.List.{fold, list_any}
@@ -12,7 +12,7 @@ use Rattle.dual_ascent.specs.Levels.{least, customer_places, servers, least_leve
 abbrev pub is_spent : Instance → Path → Duals → ℕ → Bool
 is_spent I path d i = is_opened path (site_at I i) || int_le (slack_of I path d i) (pos 0)
 
--- raising the customer's dual alone gains nothing: it has no allowed lane, or its dual reaches a site that is spent
+-- the ascent passes the customer over: it has no allowed lane, or its dual reaches a site that is spent, so that raising it alone gains nothing
 abbrev pub is_blocked : Instance → Path → Duals → ℕ → Bool
 is_blocked I path d j = (length (servers I path j) == 0) || list_any (is_spent I path d) (reached I path d j)
 
@@ -30,7 +30,7 @@ lesser None b = b
 lesser (Some x) None = Some x
 lesser (Some x) (Some y) = Some (int_min x y)
 
--- how far the customer's dual may rise: up to its next level, and by the least slack of the sites that it reaches
+-- how far the customer's dual rises: to its next level, or by the least slack of the sites that it reaches if that is less; there is such a number, above 0, wherever the customer isn't blocked
 abbrev pub rise_of : Instance → Path → Duals → ℕ → Option ℤ
 rise_of I path d j = lesser (option_map (λ l. l -ℤ v_at d j) (next_level I path d j)) (least (map (slack_of I path d) (reached I path d j)))
 

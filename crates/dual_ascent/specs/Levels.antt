@@ -20,7 +20,7 @@ site_places I = range_with_len 0 (length I.sites)
 abbrev pub customer_places : Instance → List ℕ
 customer_places I = range_with_len 0 (length I.customers)
 
--- the sites with an allowed lane to the customer at j
+-- the places of the sites with an allowed lane to the customer at j
 abbrev pub servers : Instance → Path → ℕ → List ℕ
 servers I path j = filter (λ i. is_allowed I path (site_at I i) (customer_at I j)) (site_places I)
 
@@ -36,6 +36,6 @@ least_level I path d j = least (levels_of I path d j)
 abbrev pub next_level : Instance → Path → Duals → ℕ → Option ℤ
 next_level I path d j = least (filter (λ l. int_lt (v_at d j) l) (levels_of I path d j))
 
--- the sites that the customer's dual reaches: those with an allowed lane of a level at most the dual
+-- the places of the sites that the customer's dual reaches: those with an allowed lane of a level at most the dual
 abbrev pub reached : Instance → Path → Duals → ℕ → List ℕ
 reached I path d j = filter (λ i. int_le (level_at I d i j) (v_at d j)) (servers I path j)

@@ -21,7 +21,7 @@ pub record AreLanesTo (I : Instance) (c : ℕ) (lanes : List (ℕ × ℕ)) : Typ
 abbrev pub lanes_to : Order → ℕ → List (ℕ × ℕ)
 lanes_to order j = slice_index_or order.lanes j []
 
--- the order has the sites of the instance, and for each of its customers the lanes to that customer
+-- the order has the sites of the instance, by whose places lanes are stored, and for each of its customers the lanes to that customer
 pub record IsOrderOf (order : Order) (I : Instance) : Type 0 where
   pub same_sites : order.sites ≡ site_ids I
   pub same_count : length order.lanes ≡ length I.customers
@@ -31,7 +31,7 @@ pub record IsOrderOf (order : Order) (I : Instance) : Type 0 where
 abbrev pub lane_at : Order → ℕ → ℕ → Option (ℕ × ℕ)
 lane_at order j rank = slice_get (lanes_to order j) rank
 
--- the first lane to the customer at a place that costs more
+-- the first lane to the customer at a place that costs more than this
 -- Laws for the crates above, in proofs/Walks and proofs/Counts: in an order of an instance it is the least lane that costs more,
 -- and where there is none every lane costs at most as much (`next_is_lane`, `next_is_first`, `none_above`); the lanes that cost
 -- at most as much are the first so many of the customer's (`first_ones_cost_less`); the lanes by place are those of the instance

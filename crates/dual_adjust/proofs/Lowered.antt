@@ -18,9 +18,10 @@ use Rattle.dual_ascent.specs.Ascent.{IsBlocked, IsAscended}
 use Rattle.dual_ascent.proofs.Tested.{int_lt-less}
 use Rattle.dual_ascent.proofs.Picked.{all_picked, all_valued}
 use Rattle.dual_ascent.proofs.Rounds.{one_ascent}
-use Rattle.dual_ascent.proofs.Results.{Keeps, others, ascended_exists, ascended_keeps, ascended_is_blocked, apart_exists, apart_keeps}
+use Rattle.dual_ascent.specs.Kept.{Keeps}
+use Rattle.dual_ascent.proofs.Results.{others, ascended_exists, ascended_keeps, ascended_is_blocked, apart_exists, apart_keeps}
 use Rattle.dual_ascent.specs.Levels.{customer_places}
-use Rattle.dual_adjust.specs.Slackness.{paid_sites, is_violating, tight_sites}
+use Rattle.dual_adjust.specs.Slackness.{paid_places, is_violating, tight_sites}
 use Rattle.dual_adjust.specs.Adjustment.{greatest, lowered, IsCandidate, Gains}
 
 -- the greatest of some numbers is one of them, and there is none only of none
@@ -61,7 +62,7 @@ module _ (I : Instance) (path : Path) (d : Duals) (j : ℕ) where
   pub violating_lowers : (sites : List ℕ) → is_violating I path d sites j ≡ true → (l : ℤ) × (greatest lower_levels ≡ Some l) × (l <ℤ v_at d j)
   violating_lowers sites e =
       let pays : ℕ → Bool = λ i. list_any (λ s. s == (site_at I i).id) sites && int_lt (level_at I d i j) (v_at d j) in
-      let two : 1 < length (paid_sites I path d sites j) = ltb-true 1 (length (paid_sites I path d sites j)) e in
+      let two : 1 < length (paid_places I path d sites j) = ltb-true 1 (length (paid_places I path d sites j)) e in
       elim (either_length (length lower_levels)) [
         | inl some ↦
             let found = some_greatest lower_levels some in
@@ -70,10 +71,10 @@ module _ (I : Instance) (path : Path) (d : Duals) (j : ℕ) where
         | inr none ↦
             let no_server : All (λ i. below (level_at I d i j) ≡ true → ⊥) (servers I path j) =
             all_valued (λ l. below l ≡ true → ⊥) (λ i. level_at I d i j) (servers I path j) (all_picked (λ l. ⊥) below (levels_of I path d j) (none_of_none lower_levels none)) in
-            let i : ℕ = get_or (paid_sites I path d sites j) 0 0 in
-            let some : 0 < length (paid_sites I path d sites j) = omega (arith, two) in
-            let passes = All-get_or (λ k. pays k ≡ true) (paid_sites I path d sites j) 0 0 some (filter_passes pays (servers I path j)) in
-            let not_below = All-get_or (λ k. below (level_at I d k j) ≡ true → ⊥) (paid_sites I path d sites j) 0 0 some (All-filter pays (λ k. below (level_at I d k j) ≡ true → ⊥) (servers I path j) no_server) in
+            let i : ℕ = get_or (paid_places I path d sites j) 0 0 in
+            let some : 0 < length (paid_places I path d sites j) = omega (arith, two) in
+            let passes = All-get_or (λ k. pays k ≡ true) (paid_places I path d sites j) 0 0 some (filter_passes pays (servers I path j)) in
+            let not_below = All-get_or (λ k. below (level_at I d k j) ≡ true → ⊥) (paid_places I path d sites j) 0 0 some (All-filter pays (λ k. below (level_at I d k j) ≡ true → ⊥) (servers I path j) no_server) in
             absurd (not_below (and_parts (list_any (λ s. s == (site_at I i).id) sites) (int_lt (level_at I d i j) (v_at d j)) passes).1)
       ]
 
