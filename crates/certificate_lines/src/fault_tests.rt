@@ -12,8 +12,8 @@ use std::test::Fail;
 
 // Two free sites, the first with a capacity, and three customers.
 pub(super) fn example(alloc: Global) -> Result<Instance, NoMemory> {
-    let near = LaneRow::from_vec(vec![in alloc; Some(1_000_000), Some(2_000_000), None]?);
-    let far = LaneRow::from_vec(vec![in alloc; Some(8_000_000), Some(7_000_000), Some(1_000_000)]?);
+    let near = LaneRow::from_slice(alloc, &[Some(1_000_000), Some(2_000_000), None])?;
+    let far = LaneRow::from_slice(alloc, &[Some(8_000_000), Some(7_000_000), Some(1_000_000)])?;
     let sites = vec![in alloc;
         SiteRow {
             id: SiteId::new(3),

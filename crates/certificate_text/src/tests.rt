@@ -60,11 +60,11 @@ fn cust(id: u32) -> CustRow
 }
 
 pub(super) fn example(alloc: Global) -> Result<Instance, NoMemory> {
-    let near = vec![in alloc; Some(1_000_000), Some(2_000_000), Some(9_000_000)]?;
-    let far = vec![in alloc; Some(8_000_000), Some(7_000_000), Some(1_000_000)]?;
+    let near = LaneRow::from_slice(alloc, &[Some(1_000_000), Some(2_000_000), Some(9_000_000)])?;
+    let far = LaneRow::from_slice(alloc, &[Some(8_000_000), Some(7_000_000), Some(1_000_000)])?;
     let sites = vec![in alloc;
-        site(1, 10_000_000, None, LaneRow::from_vec(near)),
-        site(2, 12_000_000, None, LaneRow::from_vec(far)),
+        site(1, 10_000_000, None, near),
+        site(2, 12_000_000, None, far),
     ]?;
     let custs = vec![in alloc; cust(1), cust(2), cust(3)]?;
     Instance::from_parts(alloc, 0, 2, 3, 4, custs, sites)
@@ -72,11 +72,11 @@ pub(super) fn example(alloc: Global) -> Result<Instance, NoMemory> {
 
 // Two sites with capacities, and one customer.
 fn capacitated(alloc: Global) -> Result<Instance, NoMemory> {
-    let near = vec![in alloc; Some(1_000_000)]?;
-    let far = vec![in alloc; Some(8_000_000)]?;
+    let near = LaneRow::from_slice(alloc, &[Some(1_000_000)])?;
+    let far = LaneRow::from_slice(alloc, &[Some(8_000_000)])?;
     let sites = vec![in alloc;
-        site(1, 10_000_000, Some(5), LaneRow::from_vec(near)),
-        site(2, 12_000_000, Some(5), LaneRow::from_vec(far)),
+        site(1, 10_000_000, Some(5), near),
+        site(2, 12_000_000, Some(5), far),
     ]?;
     Instance::from_parts(alloc, 0, 2, 3, 2, vec![in alloc; cust(1)]?, sites)
 }

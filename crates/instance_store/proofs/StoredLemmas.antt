@@ -1,5 +1,5 @@
 -- What is read of a stored instance is what the instance has.
-use Rattle.std.proofs.Common.{◌≡◌, ℕ, ◌*◌, ◌<◌, ◌≤◌, ◌↔◌, nat_eq, List, [], map, length, position, All, Contains, Option, None, IfSome, IsSome, slice_index, slice_index_or, sym, ap, subst, ◌∙◌, arith}
+use Rattle.std.proofs.Common.{◌≡◌, ℕ, ◌*◌, ◌<◌, ◌≤◌, ◌↔◌, nat_eq, List, [], map, length, position, All, Contains, Option, None, IfSome, IsSome, slice_index, slice_index_or, get_or, sym, ap, subst, ◌∙◌, arith}
 use Rattle.std.proofs.lemmas.List.{length-map, get_or-map}
 use Rattle.std.proofs.lemmas.List.Elements.{All-map}
 use Rattle.std.proofs.lemmas.Option.{IfSome_then}
@@ -7,14 +7,14 @@ use Rattle.std.proofs.lemmas.Simd.{map-map}
 use Rattle.std.specs.List.Sorted.{IsStrictlyIncreasing}
 use Rattle.location_terms.specs.declared.limits.TheConstants.{MAX_AMOUNT, MAX_SITES, MAX_CUSTOMERS, MAX_LANES}
 use Rattle.location_terms.specs.declared.status.SiteStatus.TheVariants.{Free}
-use Rattle.location_terms.specs.Instance.{Instance, AreIds, IsValid, site_ids, customer_ids, site_at, customer_at, lane, lanes_of}
+use Rattle.location_terms.specs.Instance.{Instance, Site, Customer, AreIds, IsValid, site_ids, customer_ids, site_at, customer_at, lane, lanes_of}
 use Rattle.location_terms.proofs.Places.{length-site_ids, length-customer_ids, slice_index-site_ids, slice_index-customer_ids}
 use Rattle.location_terms.proofs.Table.{IsTable, get-lanes_of, map-lanes_of, lanes_of_known, lanes_of_all}
 use Rattle.instance_store.specs.declared.rows.SiteRow.{SiteRow}
 use Rattle.instance_store.specs.declared.rows.CustRow.{CustRow}
 use Rattle.instance_store.specs.declared.instance.StoredSite.{StoredSite}
 use Rattle.instance_store.specs.declared.instance.Instance.TheInside.{Inside}
-use Rattle.instance_store.specs.Small.{IsSmall}
+use Rattle.instance_store.specs.Small.{IsSmall, AreSmall}
 use Rattle.instance_store.specs.Parts.{site_of, customer_of, site_row_ids, cust_row_ids, instance_of, AreParts}
 use Rattle.instance_store.specs.Places.{lanes_from, place_of}
 use Rattle.instance_store.specs.Stored.{site_in, free_site, stored_ids, stored_rows, stored_instance, IsStored}
@@ -110,6 +110,10 @@ module _ (a : Inside) (stored : IsStored a) (I : Instance) (view : stored_instan
   cust_place-seen id n r found same =
       found ∙ (λ k. position (nat_eq (same k)) (stored.cust_places k)) ∙ position-turned id (cust_row_ids a.custs.items)
       ∙ ap (place_of id) (sym (customer_ids-stored a)) ∙ ap (λ (J : Instance). place_of id (customer_ids J)) view
+
+-- the lanes of a valid instance are small
+pub lanes-small : (I : Instance) → IsValid I → (s : Site) → AreSmall (lanes_from I s)
+lanes-small I valid s = All-map IsSmall (λ (c : Customer). lane I s.id c.id) I.customers (λ k d below. valid.lanes_small s.id (get_or I.customers k d).id)
 
 -- at the place of an id stands the site of that id, and there is a place just where there is the id
 pub site-found : (I : Instance) (id : ℕ) (r : Option ℕ) → r ≡ place_of id (site_ids I) → IfSome r (λ i. (i < length I.sites) × ((site_at I i).id ≡ id))

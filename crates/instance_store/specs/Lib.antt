@@ -1,4 +1,5 @@
 pub mod Small
+pub mod Lanes
 pub mod Parts
 pub mod Places
 pub mod Stored

@@ -8,7 +8,7 @@ ghost use Rattle.instance_store.specs.Statuses.{with_status};
 ghost use Rattle.instance_store.specs.Stored.{free_site};
 
 use crate::index::{cust_places, site_places};
-use crate::{CustId, CustRow, NoMemory, SiteId, SiteRow, SiteStatus};
+use crate::{CustId, CustRow, LaneRow, NoMemory, SiteId, SiteRow, SiteStatus};
 use indexmap::IndexSet;
 use location_terms::MAX_AMOUNT;
 use std::alloc::Global;
@@ -185,14 +185,14 @@ impl Instance {
     }
 
     /// The lanes from the site at place `i` to all customers, in their order.
-    pub fn lanes(&self, i: usize) -> &[Option<u64>]
+    pub fn lanes(&self, i: usize) -> &LaneRow
         requires { i < length self.now.sites }
         ensures exact { result.now ≡ lanes_from self.now (site_at self.now i) }
         ensures each { (j : ℕ) → j < length self.now.customers → slice_index_or result.now j None ≡ lane self.now (site_at self.now i).id (customer_at self.now j).id }
         ensures length { length result.now ≡ length self.now.customers }
         ensures small { AreSmall result.now }
     {
-        self.sites[i].row.lanes.as_slice()
+        &self.sites[i].row.lanes
     }
 
     /// The place of the site of this id, and `None` exactly where there is no such site.

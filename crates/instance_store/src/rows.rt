@@ -1,67 +1,110 @@
 //! The rows that an instance is made of.
-ghost use Rattle.std.specs.Prelude.{◌≡◌, ◌<◌, ◌↔◌, None, IsTrue, length, slice_index_or};
+ghost use Rattle.std.specs.Prelude.{◌≡◌, ◌<◌, ◌↔◌, ◌++◌, ◌∷◌, [], None, IsTrue, IfOk, OnErr, length, slice_index_or};
 ghost use Rattle.instance_store.specs.Small.{IsSmall, AreSmall};
+ghost use Rattle.instance_store.specs.Lanes.{lane_in};
 
-use location_terms::{CustId, SiteId};
+use crate::NoMemory;
+use location_terms::{CustId, MAX_AMOUNT, SiteId};
+use std::alloc::Global;
 use std::marker::Model;
 
+// What stands where there is no lane: it is above every amount.
+const NO_LANE: u64 = u64::MAX;
+
 /// What it costs to serve each customer from one site, in millionths, in the order of the
-/// customers, and `None` where there is no lane. A clause sees the list.
+/// customers, and `None` where there is no lane. A lane takes 8 bytes. A clause sees the list.
 #[derive(Debug, Drop)]
 pub struct LaneRow {
-    lanes: Vec<Option<u64>>,
+    costs: Vec<u64>,
 }
 
 impl Model for LaneRow {
-    ghost use Rattle.std.specs.Prelude.{List, ℕ, Option};
-    ghost use Rattle.instance_store.specs.Small.{AreSmall};
+    ghost use Rattle.std.specs.Prelude.{List, ℕ, Option, map};
+    ghost use Rattle.instance_store.specs.Lanes.{lane_in};
 
     ghost Value = { List (Option ℕ) };
 
-    ghost view = { λ a. a.lanes.items };
-
-    ghost invariant = { λ a. AreSmall a.lanes.items };
+    ghost view = { λ a. map lane_in a.costs.items };
 }
 
 impl LaneRow {
-    /// The row of these lanes, whose costs are at most `MAX_AMOUNT`.
-    pub fn from_vec(lanes: Vec<Option<u64>>) -> LaneRow
-        requires { AreSmall lanes.items }
-        ensures { result ≡ lanes.items }
+    /// A row without lanes, with room for those to so many customers. It fails only where memory
+    /// runs out.
+    pub fn with_capacity(alloc: Global, custs: usize) -> Result<LaneRow, NoMemory>
+        ensures { IfOk result (λ row. row ≡ []) }
     {
-        LaneRow { lanes }
+        Ok(LaneRow {
+            costs: Vec::with_capacity(alloc, custs)?,
+        })
+    }
+
+    /// The row of these lanes, whose costs are at most `MAX_AMOUNT`. It fails only where memory runs
+    /// out.
+    pub fn from_slice(alloc: Global, lanes: &[Option<u64>]) -> Result<LaneRow, NoMemory>
+        requires { AreSmall lanes.now }
+        ensures { IfOk result (λ row. row ≡ lanes.now) }
+    {
+        let mut row = LaneRow::with_capacity(alloc, lanes.len())?;
+        for lane in lanes {
+            row.push(*lane)?;
+        }
+        Ok(row)
+    }
+
+    /// Puts the lane to the next customer behind the others. Its cost is at most `MAX_AMOUNT`. It
+    /// fails only where memory runs out, and then leaves the row as it was.
+    pub fn push(&mut self, lane: Option<u64>) -> Result<(), NoMemory>
+        requires { IsSmall lane }
+        ensures pushed { IfOk result (λ _. self.new ≡ self.old ++ lane ∷ []) }
+        ensures kept { OnErr result (self.new ≡ self.old) }
+    {
+        self.costs.push(stored(lane))?;
+        Ok(())
     }
 
     /// The number of customers that the row was made for.
     pub fn len(&self) -> usize
         ensures { result ≡ length self.now }
     {
-        self.lanes.len()
+        self.costs.len()
     }
 
     /// Whether the row was made for no customer.
     pub fn is_empty(&self) -> bool
         ensures { IsTrue result ↔ (length self.now ≡ 0) }
     {
-        self.lanes.is_empty()
+        self.costs.is_empty()
     }
 
     /// The lane to the customer at place `k`.
+    #[inline(always)]
     pub fn get(&self, k: usize) -> Option<u64>
         requires { k < length self.now }
         ensures exact { result ≡ slice_index_or self.now k None }
         ensures small { IsSmall result }
     {
-        self.lanes[k]
+        lane_in(self.costs[k])
     }
+}
 
-    /// All the lanes.
-    pub fn as_slice(&self) -> &[Option<u64>]
-        ensures exact { result.now ≡ self.now }
-        ensures small { AreSmall result.now }
-    {
-        self.lanes.as_slice()
+// The number that stands for the lane.
+fn stored(lane: Option<u64>) -> u64
+    requires { IsSmall lane }
+    ensures { lane_in result ≡ lane }
+{
+    match lane {
+        Some(cost) => cost,
+        None => NO_LANE,
     }
+}
+
+// The lane that the number stands for.
+#[inline(always)]
+fn lane_in(cost: u64) -> Option<u64>
+    ensures exact { result ≡ lane_in cost }
+    ensures small { IsSmall result }
+{
+    if cost > MAX_AMOUNT { None } else { Some(cost) }
 }
 
 /// A site to be, with its lanes to the customers in their order.

@@ -1,12 +1,13 @@
 use super::*;
+use location_terms::MAX_AMOUNT;
 use std::alloc::Global;
 use std::test::Fail;
 
-// Two sites and three customers, in millionths. The ids have gaps, a lane is missing, and one site
-// has a capacity.
+// Two sites and three customers, in millionths. The ids have gaps, a lane costs nothing, another one
+// the most that there is, a third is missing, and one site has a capacity.
 fn example(alloc: Global) -> Result<Instance, Fail> {
-    let near = LaneRow::from_vec(vec![in alloc; Some(1_000_000), Some(2_000_000), None]?);
-    let far = LaneRow::from_vec(vec![in alloc; Some(8_000_000), Some(7_000_000), Some(1_000_000)]?);
+    let near = LaneRow::from_slice(alloc, &[Some(0), Some(MAX_AMOUNT), None])?;
+    let far = LaneRow::from_slice(alloc, &[Some(8_000_000), Some(7_000_000), Some(1_000_000)])?;
     let sites = vec![in alloc;
         SiteRow {
             id: SiteId::new(3),
@@ -58,11 +59,19 @@ fn has_customer(inst: &Instance, j: usize, id: u32, demand: u64) -> bool {
         && inst.cust_at(CustId::new(id)) == Some(j)
 }
 
-// Whether these lanes go from the site at the place, read at once and one by one.
+fn has_row(lanes: &LaneRow, row: [Option<u64>; 3]) -> bool {
+    lanes.len() == 3
+        && !lanes.is_empty()
+        && lanes.get(0) == row[0]
+        && lanes.get(1) == row[1]
+        && lanes.get(2) == row[2]
+}
+
+// Whether these lanes go from the site at the place, read of its row and one by one.
 fn has_lanes(inst: &Instance, i: usize, row: [Option<u64>; 3]) -> bool {
     i < inst.sites()
         && inst.custs() == 3
-        && inst.lanes(i) == row.as_slice()
+        && has_row(inst.lanes(i), row)
         && inst.lane(i, 0) == row[0]
         && inst.lane(i, 1) == row[1]
         && inst.lane(i, 2) == row[2]
@@ -80,7 +89,7 @@ fn looks_up_each_place_and_id(rt: HostRuntime) -> Result<(), Fail> {
     assert!(rt; has_customer(&inst, 0, 2, 1_500_000));
     assert!(rt; has_customer(&inst, 1, 4, 2_000_000));
     assert!(rt; has_customer(&inst, 2, 9, 2_500_000));
-    assert!(rt; has_lanes(&inst, 0, [Some(1_000_000), Some(2_000_000), None]));
+    assert!(rt; has_lanes(&inst, 0, [Some(0), Some(MAX_AMOUNT), None]));
     assert!(rt;
         has_lanes(
             &inst,
@@ -109,7 +118,7 @@ fn is_example_but_settled(inst: &Instance) -> bool {
         && has_customer(inst, 0, 2, 1_500_000)
         && has_customer(inst, 1, 4, 2_000_000)
         && has_customer(inst, 2, 9, 2_500_000)
-        && has_lanes(inst, 0, [Some(1_000_000), Some(2_000_000), None])
+        && has_lanes(inst, 0, [Some(0), Some(MAX_AMOUNT), None])
         && has_lanes(inst, 1, [Some(8_000_000), Some(7_000_000), Some(1_000_000)])
 }
 

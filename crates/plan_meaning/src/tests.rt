@@ -21,12 +21,8 @@ fn pair(
     requires cap { IsSmall cap }
     requires far { IsSmall far }
 {
-    let first = LaneRow::from_vec(vec![in alloc; Some(1_000_000), Some(2_000_000), far]?);
-    let second = LaneRow::from_vec(vec![in alloc;
-        Some(8_000_000),
-        Some(7_000_000),
-        Some(1_000_000),
-    ]?);
+    let first = LaneRow::from_slice(alloc, &[Some(1_000_000), Some(2_000_000), far])?;
+    let second = LaneRow::from_slice(alloc, &[Some(8_000_000), Some(7_000_000), Some(1_000_000)])?;
     let sites = vec![in alloc;
         SiteRow {
             id: SiteId::new(1),

@@ -34,5 +34,11 @@ fn has_all_lanes(inst: &Instance, site: usize) -> bool
     requires { site < length inst.now.sites }
     ensures { IsTrue result ↔ All (λ c. IsSome (lane inst.now (site_at inst.now site).id c.id)) inst.now.customers }
 {
-    inst.lanes(site).iter().all(|lane| lane.is_some())
+    let lanes = inst.lanes(site);
+    for cust in 0..lanes.len() {
+        if lanes.get(cust).is_none() {
+            return false;
+        }
+    }
+    true
 }

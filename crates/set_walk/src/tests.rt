@@ -54,13 +54,14 @@ fn customers(alloc: Global, n: u32) -> Result<Vec<CustRow>, NoMemory>
 // Lanes that cost nothing to every twelfth customer, beginning with this one, and 9 to the others.
 fn lanes(alloc: Global, n: u32, first: u32) -> Result<LaneRow, NoMemory>
     requires { n ≤ MAX_CUSTOMERS }
-    ensures { IfOk result (λ row. length row ≡ n) }
+    ensures full { IfOk result (λ row. length row ≡ n) }
+    ensures small { IfOk result AreSmall }
 {
-    let mut row = Vec::new(alloc);
+    let mut row = LaneRow::with_capacity(alloc, n as usize)?;
     for k in 0..n {
         row.push(Some(if k % 12 == first { 0 } else { 9 }))?;
     }
-    Ok(LaneRow::from_vec(row))
+    Ok(row)
 }
 
 // The sites 1 to 12, each with lanes to n customers.
@@ -108,12 +109,8 @@ fn all_twelve_sites_open(rt: HostRuntime) -> Result<(), Fail> {
 #[test]
 fn one_site_serves_all(rt: HostRuntime) -> Result<(), Fail> {
     let alloc = rt.alloc();
-    let near = LaneRow::from_vec(vec![in alloc;
-        Some(1_000_000),
-        Some(2_000_000),
-        Some(9_000_000),
-    ]?);
-    let far = LaneRow::from_vec(vec![in alloc; Some(8_000_000), Some(7_000_000), Some(1_000_000)]?);
+    let near = LaneRow::from_slice(alloc, &[Some(1_000_000), Some(2_000_000), Some(9_000_000)])?;
+    let far = LaneRow::from_slice(alloc, &[Some(8_000_000), Some(7_000_000), Some(1_000_000)])?;
     let sites = vec![in alloc;
         SiteRow {
             id: SiteId::new(1),
@@ -157,8 +154,8 @@ fn one_site_serves_all(rt: HostRuntime) -> Result<(), Fail> {
 #[test]
 fn each_site_serves_its_customer(rt: HostRuntime) -> Result<(), Fail> {
     let alloc = rt.alloc();
-    let east = LaneRow::from_vec(vec![in alloc; Some(7), Some(1)]?);
-    let west = LaneRow::from_vec(vec![in alloc; Some(2), Some(8)]?);
+    let east = LaneRow::from_slice(alloc, &[Some(7), Some(1)])?;
+    let west = LaneRow::from_slice(alloc, &[Some(2), Some(8)])?;
     let sites = vec![in alloc;
         SiteRow {
             id: SiteId::new(4),
@@ -190,7 +187,7 @@ fn each_site_serves_its_customer(rt: HostRuntime) -> Result<(), Fail> {
 #[test]
 fn nothing_costs_nothing(rt: HostRuntime) -> Result<(), Fail> {
     let alloc = rt.alloc();
-    let lanes = LaneRow::from_vec(vec![in alloc; Some(0)]?);
+    let lanes = LaneRow::from_slice(alloc, &[Some(0)])?;
     let sites = vec![in alloc;
         SiteRow {
             id: SiteId::new(1),

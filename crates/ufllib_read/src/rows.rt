@@ -110,12 +110,12 @@ fn read_lane(reader: &mut WordReader<'_>) -> Result<Option<u64>, FileFault>
 fn read_lanes(alloc: Global, reader: &mut WordReader<'_>, custs: u32) -> Result<LaneRow, FormFault>
     ensures { ReadsForm (λ row. row) result reader.new (many_at (λ _. lane_at) 0 custs reader.old) }
 {
-    let mut lanes = Vec::with_capacity(alloc, custs as usize)?;
+    let mut lanes = LaneRow::with_capacity(alloc, custs as usize).map_err(|_| FormFault::NoMemory)?;
     for _ in 0..custs {
         let lane = read_lane(reader)?;
-        lanes.push(lane)?;
+        lanes.push(lane).map_err(|_| FormFault::NoMemory)?;
     }
-    Ok(LaneRow::from_vec(lanes))
+    Ok(lanes)
 }
 
 /// The instance of the facilities that were read.

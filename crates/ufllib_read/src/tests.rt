@@ -35,10 +35,17 @@ fn has_customers_of_pair(inst: &Instance) -> bool {
     ids && inst.demand(0) == 0 && inst.demand(2) == 0
 }
 
+fn has_lanes(inst: &Instance, i: usize, row: [u64; 3]) -> bool {
+    i < inst.sites()
+        && inst.custs() == 3
+        && inst.lane(i, 0) == Some(row[0])
+        && inst.lane(i, 1) == Some(row[1])
+        && inst.lane(i, 2) == Some(row[2])
+}
+
 fn has_lanes_of_pair(inst: &Instance) -> bool {
-    inst.sites() == 2
-        && inst.lanes(0) == [Some(1_000_000), Some(2_000_000), Some(9_000_000)].as_slice()
-        && inst.lanes(1) == [Some(8_000_000), Some(7_000_000), Some(1_000_000)].as_slice()
+    has_lanes(inst, 0, [1_000_000, 2_000_000, 9_000_000])
+        && has_lanes(inst, 1, [8_000_000, 7_000_000, 1_000_000])
 }
 
 #[test]

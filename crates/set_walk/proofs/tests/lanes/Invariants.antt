@@ -1,9 +1,9 @@
-use Rattle.std.proofs.Common.{◌≡◌, vec_len}
+use Rattle.std.proofs.Common.{◌≡◌, length}
 use Rattle.instance_store.specs.Small.{AreSmall}
 use Rattle.set_walk.proofs.tests.lanes.Given as goal
 
 abbrev pub invariant-loop-k : goal.invariant-loop-k
 invariant-loop-k l = record {
-  count : vec_len l.row ≡ l.k;
-  small : AreSmall l.row.items;
+  count : length l.row ≡ l.k;
+  small : AreSmall l.row;
 }
