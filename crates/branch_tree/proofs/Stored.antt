@@ -15,7 +15,7 @@ use Rattle.location_terms.specs.Instance.{Instance, site_ids, customer_ids}
 use Rattle.location_terms.specs.Bound.{Duals}
 use Rattle.location_terms.specs.Fit.{DualsFit}
 use Rattle.location_terms.proofs.Places.{length-site_ids, length-customer_ids}
-use Rattle.branch_tree.specs.Made.{nodes_shown, entry_shown, leaf_of, zeros_of}
+use Rattle.branch_tree.specs.Made.{nodes_shown, entry_shown, leaf_of}
 use Rattle.branch_tree.proofs.Flat.{length-flat, leaves_and_splits, nodes_shown-flat, splits_sound, leaves_sound}
 
 -- the tree that these lists store
@@ -79,22 +79,3 @@ leaf_seen I S C d n sites customers e =
     ap (λ s. let t : Tree = record { sites = s; customers = C; root = tree_of n } in t) sites
     ∙ ap (λ c. let t : Tree = record { sites = site_ids I; customers = c; root = tree_of n } in t) customers
     ∙ ap (λ r. let t : Tree = record { sites = site_ids I; customers = customer_ids I; root = r } in t) (ap tree_of e ∙ tree_of-flat (Leaf d))
-
-zero_at : (n i : ℕ) → i < n → slice_index (replicate n 0) i ≡ 0
-zero_at n i h = get_or-replicate n i 0 0 h
-
--- zeros fit each instance
-pub zeros_fit : (I : Instance) (q : ℕ) → q ≤ 1000000 → DualsFit I (zeros_of I q)
-zeros_fit I q small = record {
-  in_limits = record {
-    scale = small;
-    count_price = lit≤ tt;
-    values = All-replicate (λ v. unsigned_abs v ≤ MAX_VALUE) (length I.customers) (pos 0) (lit≤ tt);
-    multipliers = All-replicate (λ u. u ≤ MAX_MULTIPLIER) (length I.sites) 0 (lit≤ tt);
-  };
-  of_instance = record {
-    customers = length-replicate (length I.customers) (pos 0);
-    sites = length-replicate (length I.sites) 0;
-    unpriced = λ i b _. zero_at (length I.sites) i b;
-  };
-}

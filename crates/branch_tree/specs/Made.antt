@@ -1,5 +1,5 @@
 -- The trees that the constructors make, and a tree's nodes as they are shown.
-use Rattle.std.specs.Prelude.{ℕ, List, [], ◌∷◌, ◌++◌, length, replicate, pos, Option, None, Some, slice_get}
+use Rattle.std.specs.Prelude.{ℕ, List, [], ◌∷◌, ◌++◌, length, Option, None, Some, slice_get}
 use Rattle.std.specs.Option.{option_and_then}
 use Rattle.location_terms.specs.Instance.{Instance, site_ids, customer_ids}
 use Rattle.location_terms.specs.Bound.{Duals}
@@ -13,10 +13,6 @@ use Rattle.branch_tree.specs.declared.node.Node.TheVariants as shown
 -- one leaf with these duals, on the instance's ids
 abbrev pub leaf_of : Instance → Duals → Tree
 leaf_of I d = record { sites = site_ids I; customers = customer_ids I; root = Leaf d }
-
--- duals that are 0 for the whole instance, at this scale
-abbrev pub zeros_of : Instance → ℕ → Duals
-zeros_of I q = record { q = q; nu = pos 0; v = replicate (length I.customers) (pos 0); u = replicate (length I.sites) 0 }
 
 -- a split whose children are these trees, on the ids of the first
 abbrev pub split_on_site : ℕ → Tree → Tree → Tree

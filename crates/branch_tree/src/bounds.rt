@@ -5,28 +5,37 @@ ghost use Rattle.location_terms.specs.Tree.{low_end};
 ghost use Rattle.dual_value.specs.declared.bounds.TheConstants.{MAX_BOUND};
 ghost use Rattle.branch_tree.specs.Walk.{lowered};
 
-use dual_value::{Duals, Path, bound, closes, fits};
+use dual_value::{BoxBounds, Duals, Path, closes, fits};
 use instance_store::Instance;
 use location_terms::MAX_COST;
 
 // Whether the duals fit and their bound closes the box.
-pub(crate) fn closes_box(inst: &Instance, path: &Path, duals: &Duals, target: Option<u64>) -> bool
+pub(crate) fn closes_box(
+    inst: &Instance,
+    bounds: &mut BoxBounds<'_>,
+    path: &Path,
+    duals: &Duals,
+    target: Option<u64>,
+) -> bool
+    requires bounds { bounds.old ≡ inst.now }
     requires customers { length duals.now.v ≡ length inst.now.customers }
     requires sites { length duals.now.u ≡ length inst.now.sites }
-    ensures { IsTrue result ↔ Closes inst.now path.now duals.now target }
+    ensures kept { bounds.new ≡ bounds.old }
+    ensures exact { IsTrue result ↔ Closes inst.now path.now duals.now target }
 {
-    fits(duals, inst).is_ok() && closes(bound(inst, path, duals), duals.q(), target)
+    fits(duals, inst).is_ok() && closes(bounds.bound(path, duals), duals.q(), target)
 }
 
 // The lesser of the number and of the low end that the duals show, where they have a scale.
-pub(crate) fn lowered(inst: &Instance, path: &Path, duals: &Duals, least: u64) -> u64
-    requires { DualsFit inst.now duals.now }
-    ensures { result ≡ lowered inst.now least (path.now, duals.now) }
+pub(crate) fn lowered(bounds: &mut BoxBounds<'_>, path: &Path, duals: &Duals, least: u64) -> u64
+    requires { DualsFit bounds.old duals.now }
+    ensures kept { bounds.new ≡ bounds.old }
+    ensures exact { result ≡ lowered bounds.old least (path.now, duals.now) }
 {
     if duals.q() == 0 {
         return least;
     }
-    least.min(low_end(bound(inst, path, duals), duals.q()))
+    least.min(low_end(bounds.bound(path, duals), duals.q()))
 }
 
 // The least whole number that is at least `bound / q`, 0 where that is below 0, at most `MAX_COST`.

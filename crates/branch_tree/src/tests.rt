@@ -13,9 +13,9 @@ use std::test::Fail;
 // Three sites that cost 2 units each, in millionths, and three customers, each of whom two of the
 // sites serve at no cost.
 fn example(alloc: Global) -> Result<Instance, Fail> {
-    let first = LaneRow::from_vec(vec![in alloc; Some(0), Some(0), None]?);
-    let second = LaneRow::from_vec(vec![in alloc; None, Some(0), Some(0)]?);
-    let third = LaneRow::from_vec(vec![in alloc; Some(0), None, Some(0)]?);
+    let first = LaneRow::from_slice(alloc, &[Some(0), Some(0), None])?;
+    let second = LaneRow::from_slice(alloc, &[None, Some(0), Some(0)])?;
+    let third = LaneRow::from_slice(alloc, &[Some(0), None, Some(0)])?;
     let sites = vec![in alloc;
         SiteRow {
             id: SiteId::new(1),

@@ -5,10 +5,11 @@ ghost use Rattle.location_terms.specs.Optimal.{IsLowEnd, IsImpossible};
 ghost use Rattle.location_terms.specs.Bound.{bound_of};
 ghost use Rattle.location_terms.specs.Fit.{DualsFit, BoundCloses};
 ghost use Rattle.location_terms.specs.Tree.{IsTree, StandsOn, AllClose, leaves_of, low_of, nodes_of};
+ghost use Rattle.dual_value.specs.Zeros.{zeros};
 ghost use Rattle.branch_tree.specs.Leaf.{replaced_in};
 ghost use Rattle.branch_tree.specs.Preorder.{IsStored, tree_from};
 ghost use Rattle.std.specs.Option.{option_copied};
-ghost use Rattle.branch_tree.specs.Made.{leaf_of, zeros_of, split_on_site, split_on_lane, nodes_shown, entry_shown, duals_at};
+ghost use Rattle.branch_tree.specs.Made.{leaf_of, split_on_site, split_on_lane, nodes_shown, entry_shown, duals_at};
 
 use crate::Node;
 use crate::entry::Entry;
@@ -45,7 +46,7 @@ impl Model for Tree {
 impl Tree {
     /// One leaf whose duals are 0 at scale 1. It fails only where memory runs out.
     pub fn root(alloc: Global, inst: &Instance) -> Result<Tree, NoMemory>
-        ensures { IfOk result (λ t. t ≡ leaf_of inst.now (zeros_of inst.now 1)) }
+        ensures { IfOk result (λ t. t ≡ leaf_of inst.now (zeros inst.now 1)) }
     {
         let _valid = inst.sites();
         let duals = Duals::zeros(alloc, inst, 1)?;

@@ -9,7 +9,7 @@ ghost use Rattle.branch_tree.specs.Walk.{second_child, turned, next, passed, lea
 
 use crate::bounds::{closes_box, lowered};
 use crate::entry::Entry;
-use dual_value::Path;
+use dual_value::{BoxBounds, Path};
 use instance_store::{Instance, NoMemory};
 use location_terms::{Decision, MAX_COST};
 use std::alloc::Global;
@@ -24,9 +24,10 @@ pub(crate) fn all_close(
     requires { All (IsSound (site_ids inst.now) (customer_ids inst.now)) nodes.now }
     ensures { IfOk result (λ yes. IsTrue yes ↔ All (λ l. Closes inst.now l.0 l.1 target) (leaves_ahead [] nodes.now)) }
 {
+    let mut bounds = BoxBounds::of(alloc, inst);
     let mut path = Path::root(alloc);
     for entry in nodes {
-        if !end_closes(entry, inst, &path, target) {
+        if !end_closes(entry, inst, &mut bounds, &path, target) {
             return Ok(false);
         }
         pass(&mut path, entry)?;
@@ -39,31 +40,41 @@ pub(crate) fn least_low(alloc: Global, nodes: &[Entry], inst: &Instance) -> Resu
     requires { All (EndFits inst.now) nodes.now }
     ensures { IfOk result (λ low. low ≡ lowered_all inst.now MAX_COST (leaves_ahead [] nodes.now)) }
 {
+    let mut bounds = BoxBounds::of(alloc, inst);
     let mut path = Path::root(alloc);
     let mut least = MAX_COST;
     for entry in nodes {
-        least = end_lowered(entry, inst, &path, least);
+        least = end_lowered(entry, &mut bounds, &path, least);
         pass(&mut path, entry)?;
     }
     Ok(least)
 }
 
-fn end_closes(entry: &Entry, inst: &Instance, path: &Path, target: Option<u64>) -> bool
-    requires { IsSound (site_ids inst.now) (customer_ids inst.now) entry.now }
-    ensures { IsTrue result ↔ All (λ l. Closes inst.now l.0 l.1 target) (leaf_at path.now entry.now) }
+fn end_closes(
+    entry: &Entry,
+    inst: &Instance,
+    bounds: &mut BoxBounds<'_>,
+    path: &Path,
+    target: Option<u64>,
+) -> bool
+    requires sound { IsSound (site_ids inst.now) (customer_ids inst.now) entry.now }
+    requires bounds { bounds.old ≡ inst.now }
+    ensures kept { bounds.new ≡ bounds.old }
+    ensures exact { IsTrue result ↔ All (λ l. Closes inst.now l.0 l.1 target) (leaf_at path.now entry.now) }
 {
     match entry {
-        Entry::End(duals) => closes_box(inst, path, duals, target),
+        Entry::End(duals) => closes_box(inst, bounds, path, duals, target),
         _ => true,
     }
 }
 
-fn end_lowered(entry: &Entry, inst: &Instance, path: &Path, least: u64) -> u64
-    requires { EndFits inst.now entry.now }
-    ensures { result ≡ lowered_all inst.now least (leaf_at path.now entry.now) }
+fn end_lowered(entry: &Entry, bounds: &mut BoxBounds<'_>, path: &Path, least: u64) -> u64
+    requires { EndFits bounds.old entry.now }
+    ensures kept { bounds.new ≡ bounds.old }
+    ensures exact { result ≡ lowered_all bounds.old least (leaf_at path.now entry.now) }
 {
     match entry {
-        Entry::End(duals) => lowered(inst, path, duals, least),
+        Entry::End(duals) => lowered(bounds, path, duals, least),
         _ => least,
     }
 }

@@ -9,19 +9,21 @@ ghost use Rattle.certificate_check.specs.Judgement.{target_of, IsAgainst, Stands
 use crate::Why;
 use branch_tree::{Duals, Path};
 use certificate_lines::Shown;
-use dual_value::{bound, closes};
+use dual_value::{BoxBounds, closes};
 use instance_store::Instance;
 use location_terms::Claim;
 use plan_meaning::{Plan, judge};
 
 // What speaks against what a line shows, if anything does.
-pub(crate) fn against(inst: &Instance, shown: &Shown) -> Option<Why>
-    requires { IsSound inst.now (shown_of shown.now) }
-    ensures { MatchOption result (Stands inst.now (shown_of shown.now)) (IsAgainst inst.now (shown_of shown.now)) }
+pub(crate) fn against(inst: &Instance, bounds: &mut BoxBounds<'_>, shown: &Shown) -> Option<Why>
+    requires bounds { bounds.old ≡ inst.now }
+    requires sound { IsSound inst.now (shown_of shown.now) }
+    ensures kept { bounds.new ≡ bounds.old }
+    ensures exact { MatchOption result (Stands inst.now (shown_of shown.now)) (IsAgainst inst.now (shown_of shown.now)) }
 {
     match shown {
         Shown::Plan(claim, plan) => against_plan(inst, *claim, plan),
-        Shown::Leaf(claim, path, duals) => against_leaf(inst, *claim, path, duals),
+        Shown::Leaf(claim, path, duals) => against_leaf(bounds, *claim, path, duals),
         Shown::Nothing | Shown::Site(_) | Shown::Lane(_, _) => None,
     }
 }
@@ -41,11 +43,12 @@ fn against_plan(inst: &Instance, claim: Claim, plan: &Plan) -> Option<Why>
     }
 }
 
-fn against_leaf(inst: &Instance, claim: Claim, path: &Path, duals: &Duals) -> Option<Why>
-    requires { DualsFit inst.now duals.now }
-    ensures { MatchOption result (Stands inst.now (LeafShown claim path.now duals.now)) (IsAgainst inst.now (LeafShown claim path.now duals.now)) }
+fn against_leaf(bounds: &mut BoxBounds<'_>, claim: Claim, path: &Path, duals: &Duals) -> Option<Why>
+    requires { DualsFit bounds.old duals.now }
+    ensures kept { bounds.new ≡ bounds.old }
+    ensures exact { MatchOption result (Stands bounds.old (LeafShown claim path.now duals.now)) (IsAgainst bounds.old (LeafShown claim path.now duals.now)) }
 {
-    let bound = bound(inst, path, duals);
+    let bound = bounds.bound(path, duals);
     let q = duals.q();
     if closes(bound, q, target(claim)) {
         None

@@ -17,6 +17,7 @@ ghost use Rattle.certificate_check.specs.Verdict.{IsAnswer};
 use crate::step::{Step, take_line};
 use crate::{CertFault, CertKind, MAX_CERTIFICATE_BYTES, Verdict};
 use certificate_lines::Form;
+use dual_value::BoxBounds;
 use instance_store::Instance;
 use location_terms::Claim;
 use shelf_lines::{Ahead, LineFault, LineReader, Next};
@@ -85,6 +86,7 @@ pub(crate) fn check_lines<H: Shelf>(
     ensures reads { NeverFalls (H.read_faults shelf.old) (H.read_faults shelf.new) }
     ensures writes { NeverFalls (H.write_faults shelf.old) (H.write_faults shelf.new) }
 {
+    let mut bounds = BoxBounds::of(alloc, inst);
     let mut form = Form::Header;
     let mut line = 1;
     loop {
@@ -92,7 +94,7 @@ pub(crate) fn check_lines<H: Shelf>(
             return close(reader, shelf, name, claim, line);
         }
         hand_out(reader, shelf, name, line)?;
-        match take_line(alloc, inst, form, reader.line(), line)? {
+        match take_line(alloc, inst, &mut bounds, form, reader.line(), line)? {
             Step::On(due) => form = due,
             Step::Says(verdict) => return Ok(verdict),
         }

@@ -9,6 +9,7 @@ ghost use Rattle.certificate_check.specs.Verdict.{line_of};
 use crate::against::against;
 use crate::{CertFault, Verdict};
 use certificate_lines::{Form, LineFault, Shown};
+use dual_value::BoxBounds;
 use instance_store::Instance;
 use std::alloc::Global;
 
@@ -25,17 +26,20 @@ pub(crate) enum Step {
 pub(crate) fn take_line(
     alloc: Global,
     inst: &Instance,
+    bounds: &mut BoxBounds<'_>,
     form: Form,
     text: &[u8],
     line: u64,
 ) -> Result<Step, CertFault>
-    requires { Suits inst.now (due_of form) }
+    requires suits { Suits inst.now (due_of form) }
+    requires bounds { bounds.old ≡ inst.now }
+    ensures kept { bounds.new ≡ bounds.old }
     ensures step { IsStep line inst.now (read_line inst.now (due_of form) text.now) result }
     ensures ready { IfOk result (LeavesReady inst.now) }
     ensures no_read { result ≢ Err CertFault.ReadFailed }
 {
     match form.read(alloc, inst, text) {
-        Ok((due, shown)) => match against(inst, &shown) {
+        Ok((due, shown)) => match against(inst, bounds, &shown) {
             Some(why) => Ok(Step::Says(Verdict::No {
                 line: line_of(&shown, line),
                 why,

@@ -15,20 +15,20 @@ const WIDE: usize = 65_536;
 
 // Two sites and three customers without demand, in millionths.
 pub(crate) fn example(alloc: Global) -> Result<Instance, NoMemory> {
-    let near = vec![in alloc; Some(1_000_000), Some(2_000_000), Some(9_000_000)]?;
-    let far = vec![in alloc; Some(8_000_000), Some(7_000_000), Some(1_000_000)]?;
+    let near = LaneRow::from_slice(alloc, &[Some(1_000_000), Some(2_000_000), Some(9_000_000)])?;
+    let far = LaneRow::from_slice(alloc, &[Some(8_000_000), Some(7_000_000), Some(1_000_000)])?;
     let sites = vec![in alloc;
         SiteRow {
             id: SiteId::new(1),
             fixed: 10_000_000,
             cap: None,
-            lanes: LaneRow::from_vec(near)
+            lanes: near
         },
         SiteRow {
             id: SiteId::new(2),
             fixed: 12_000_000,
             cap: None,
-            lanes: LaneRow::from_vec(far)
+            lanes: far
         },
     ]?;
     let custs = vec![in alloc;

@@ -2,3 +2,8 @@ pub mod Unbarred
 pub mod Torn
 pub mod Sizes
 pub mod Unpaid
+pub mod Settling
+pub mod Admitted
+pub mod Payments
+pub mod Walked
+pub mod Zeros

@@ -1,8 +1,10 @@
 -- Sizes of integers and of their totals.
-use Rattle.std.proofs.Common.{◌≡◌, ℕ, ◌+◌, ◌*◌, ◌^◌, ◌<◌, ◌≤◌, refl, arith, add-one, ℤ, pos, negsuc, ◌+ℤ◌, ◌-ℤ◌, ◌≤ℤ◌}
+use Rattle.std.proofs.Common.{◌≡◌, ℕ, ◌+◌, ◌*◌, ◌^◌, ◌<◌, ◌≤◌, refl, ap, ◌∙◌, arith, add-one, true, ℤ, pos, negsuc, ◌+ℤ◌, ◌-ℤ◌, ◌≤ℤ◌}
 use Rattle.std.specs.Int.RustNames.{unsigned_abs, FitsSigned}
 use mir.Syntax.{w128}
 use mir.Val.{to_z, of_z}
+use Rattle.std.specs.Int.Signed.{le_z, le_z_yes}
+use Rattle.std.proofs.lemmas.Float.{T_from_true}
 use Rattle.std.proofs.lemmas.Int.{ints, fits_signed_from_abs, to_z-of_z}
 use Rattle.location_terms.specs.Bound.{total}
 
@@ -62,6 +64,18 @@ sum_fits a b m n h k small = rw (kept a m h (omega arith), kept b n k (omega ari
 
 pub difference_kept : (a b : ℤ) (m n : ℕ) → unsigned_abs a ≤ m → unsigned_abs b ≤ n → m + n < 2 ^ 127 → to_z w128 (of_z w128 (to_z w128 (of_z w128 a) -ℤ to_z w128 (of_z w128 b))) ≡ a -ℤ b
 difference_kept a b m n h k small = rw (kept a m h (omega arith), kept b n k (omega arith)) (kept (a -ℤ b) (m + n) (size-minus a b m n h k) small)
+
+pub difference_fits : (a b : ℤ) (m n : ℕ) → unsigned_abs a ≤ m → unsigned_abs b ≤ n → m + n < 2 ^ 127 → FitsSigned w128 (to_z w128 (of_z w128 a) -ℤ to_z w128 (of_z w128 b))
+difference_fits a b m n h k small = rw (kept a m h (omega arith), kept b n k (omega arith)) (fits_size (a -ℤ b) (m + n) (size-minus a b m n h k) small)
+
+pub difference_kept_to : (a b c : ℤ) (m n : ℕ) → unsigned_abs a ≤ m → unsigned_abs b ≤ n → m + n < 2 ^ 127 → b ≡ c → to_z w128 (of_z w128 (to_z w128 (of_z w128 a) -ℤ to_z w128 (of_z w128 b))) ≡ a -ℤ c
+difference_kept_to a b c m n h k small same = difference_kept a b m n h k small ∙ ap (λ x. a -ℤ x) same
+
+-- an order that the code finds
+pub order_kept : (a b : ℤ) (m n : ℕ) → unsigned_abs a ≤ m → unsigned_abs b ≤ n → m + n < 2 ^ 127 → le_z (to_z w128 (of_z w128 a)) (to_z w128 (of_z w128 b)) ≡ true → a ≤ℤ b
+order_kept a b m n h k small order =
+    let found : to_z w128 (of_z w128 a) ≤ℤ to_z w128 (of_z w128 b) = le_z_yes (T_from_true _ order) in
+    rw (kept a m h (omega arith), kept b n k (omega arith)) at found
 
 -- one step of a running total, and its size
 pub total_step : (f : ℕ → ℤ) (i lim : ℕ) (a b : ℤ) → a ≡ total f i → unsigned_abs a ≤ i * lim → b ≡ f i → unsigned_abs b ≤ lim → (i + 1) * lim < 2 ^ 127 → to_z w128 (of_z w128 (a +ℤ to_z w128 (of_z w128 b))) ≡ total f (i + 1)

@@ -2,3 +2,8 @@ pub mod Lanes
 pub mod SiteState
 pub mod Paid
 pub mod RangeFault
+pub mod Prepared
+pub mod Slacks
+pub mod PreparedSites
+pub mod Sorted
+pub mod Zeros

@@ -6,7 +6,7 @@ ghost use Rattle.location_terms.specs.Bound.{total, v_at, paid_at, cap_price, sl
 ghost use Rattle.location_terms.specs.Fit.{DualsFit};
 ghost use Rattle.location_terms.specs.declared.limits.TheConstants.{MAX_AMOUNT, MAX_SITES, MAX_CUSTOMERS, MAX_SCALE, MAX_VALUE, MAX_MULTIPLIER};
 ghost use Rattle.instance_store.specs.Small.{IsSmall};
-ghost use Rattle.dual_value.specs.Paid.{paid_above, priced_cost};
+ghost use Rattle.dual_value.specs.Paid.{is_dear, paid_above, priced_cost};
 
 use crate::settled::{is_closed, is_unbarred};
 use crate::{Duals, Path, SiteState, is_torn, site_state};
@@ -83,7 +83,7 @@ fn slack_in(inst: &Instance, path: &Path, duals: &Duals, site: usize, torn: bool
 
 // The scaled fixed cost of the site with the price on the number of sites, less the price of its
 // capacity.
-fn priced_cost(inst: &Instance, duals: &Duals, site: usize) -> i128
+pub(crate) fn priced_cost(inst: &Instance, duals: &Duals, site: usize) -> i128
     requires fit { DualsFit inst.now duals.now }
     requires site { site < length inst.now.sites }
     ensures exact { result ≡ priced_cost inst.now duals.now site }
@@ -137,13 +137,29 @@ fn paid_from(inst: &Instance, path: &Path, duals: &Duals, site: usize) -> i128
     let price = duals.u(site);
     let mut sum = 0;
     for cust in 0..lanes.len() {
-        sum += paid_by(inst, path, site, cust, lanes[cust], values[cust], q, price);
+        let cost = lanes.get(cust);
+        if !is_dear(cost, q, values[cust]) {
+            sum += paid_by(inst, path, site, cust, cost, values[cust], q, price);
+        }
     }
     sum
 }
 
-// What a customer of this dual pays above the level of the lane, where the site is open to it.
+// Whether the dual pays nothing for the lane at any price of the capacity. Most lanes are dear, so this
+// is all that is looked at of them.
 #[inline(always)]
+fn is_dear(cost: Option<u64>, q: u32, value: i128) -> bool
+    requires { IsSmall cost }
+    ensures { result ≡ is_dear q value cost }
+{
+    match cost {
+        None => true,
+        Some(cost) => value <= times(u64::from(q), cost),
+    }
+}
+
+// What a customer of this dual pays above the level of the lane, where the site is open to it.
+#[inline(never)]
 fn paid_by(
     inst: &Instance,
     path: &Path,
@@ -170,38 +186,33 @@ fn paid_by(
     let Some(cost) = cost else {
         return 0;
     };
-    let level = level(inst, cust, cost, q, price);
+    let level = level(q, cost, price, inst.demand(cust));
     if value <= level || !is_unbarred(inst, path, site, cust) {
         return 0;
     }
     value - level
 }
 
-// What a lane of this cost costs at the prices.
+/// What a lane of this cost costs at the prices, its level: `q` times its cost, and the price of the
+/// demand that it takes of the capacity.
 #[inline(always)]
-fn level(inst: &Instance, cust: usize, cost: u64, q: u32, price: u64) -> i128
-    requires customer { cust < length inst.now.customers }
+pub fn level(q: u32, cost: u64, price: u64, demand: u64) -> i128
     requires cost { cost ≤ MAX_AMOUNT }
-    requires q { q ≤ MAX_SCALE }
-    requires price { price ≤ MAX_MULTIPLIER }
-    ensures { result ≡ pos (q * cost + price * (customer_at inst.now cust).demand) }
+    requires demand { demand ≤ MAX_AMOUNT }
+    ensures { result ≡ pos (q * cost + price * demand) }
 {
-    let scaled = times(u64::from(q), cost);
-    if price == 0 {
-        return scaled;
-    }
-    scaled + times(price, inst.demand(cust))
+    times(u64::from(q), cost) + times(price, demand)
 }
 
 #[inline(always)]
-fn times(factor: u64, amount: u64) -> i128
+pub(crate) fn times(factor: u64, amount: u64) -> i128
     requires { amount ≤ MAX_AMOUNT }
     ensures { result ≡ pos (factor * amount) }
 {
     i128::from(factor) * i128::from(amount)
 }
 
-fn value_total(inst: &Instance, duals: &Duals) -> i128
+pub(crate) fn value_total(inst: &Instance, duals: &Duals) -> i128
     requires fit { DualsFit inst.now duals.now }
     requires valid { IsValid inst.now }
     ensures exact { result ≡ total (v_at duals.now) (length inst.now.customers) }
@@ -214,7 +225,7 @@ fn value_total(inst: &Instance, duals: &Duals) -> i128
     sum
 }
 
-fn count_price(inst: &Instance, nu: i128) -> i128
+pub(crate) fn count_price(inst: &Instance, nu: i128) -> i128
     requires valid { IsValid inst.now }
     requires nu { unsigned_abs nu ≤ MAX_VALUE }
     ensures exact { result ≡ count_price inst.now nu }

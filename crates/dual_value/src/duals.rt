@@ -1,6 +1,7 @@
 //! The duals of a box, by place of the instance.
-ghost use Rattle.std.specs.Prelude.{◌≡◌, ◌<◌, length, pos, IfOk, replicate, slice_set};
+ghost use Rattle.std.specs.Prelude.{◌≡◌, ◌<◌, length, IfOk, slice_set};
 ghost use Rattle.location_terms.specs.Bound.{v_at, u_at};
+ghost use Rattle.dual_value.specs.Zeros.{zeros};
 
 use instance_store::{Instance, NoMemory};
 use std::alloc::Global;
@@ -27,7 +28,7 @@ impl Model for Duals {
 impl Duals {
     /// Duals that are 0 for the whole instance, at this scale. It fails only where memory runs out.
     pub fn zeros(alloc: Global, inst: &Instance, q: u32) -> Result<Duals, NoMemory>
-        ensures { IfOk result (λ d. d ≡ record { q = q; nu = pos 0; v = replicate (length inst.now.customers) (pos 0); u = replicate (length inst.now.sites) 0 }) }
+        ensures { IfOk result (λ d. d ≡ zeros inst.now q) }
     {
         Ok(Duals {
             q,
@@ -120,5 +121,13 @@ impl Duals {
         ensures { self.new ≡ record self.old { v = slice_set self.old.v j value } }
     {
         self.v[j] = value;
+    }
+
+    /// Takes over the duals of the customers from others, which are for as many customers.
+    pub fn copy_values(&mut self, other: &Duals)
+        requires { length other.now.v ≡ length self.old.v }
+        ensures { self.new ≡ record self.old { v = other.now.v } }
+    {
+        self.v.copy_from_slice(&other.v);
     }
 }

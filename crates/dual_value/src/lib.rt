@@ -4,19 +4,28 @@
 #![tactic(auto)]
 
 mod bounds;
+mod box_bounds;
 mod closing;
 mod duals;
 mod fit;
 mod path;
+mod prepared;
+mod preparing;
 mod settled;
+mod slacks;
 
-pub use bounds::{MAX_BOUND, MAX_SLACK, bound, slack};
+pub use bounds::{MAX_BOUND, MAX_SLACK, bound, level, slack};
+pub use box_bounds::BoxBounds;
 pub use closing::closes;
 pub use duals::Duals;
 pub use fit::{RangeFault, fits, tame};
 pub use location_terms::Decision;
 pub use path::Path;
+pub use prepared::PreparedBox;
 pub use settled::{SiteState, allowed, is_torn, site_state};
+pub use slacks::{bound_from, fill_slacks};
 
+#[cfg(test)]
+mod bound_tests;
 #[cfg(test)]
 mod tests;

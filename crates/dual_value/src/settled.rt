@@ -79,7 +79,7 @@ fn is_torn_by(inst: &Instance, path: &Path, step: &Decision) -> bool
 }
 
 // The site that the step opens or closes.
-fn named_site(step: &Decision) -> Option<SiteId>
+pub(crate) fn named_site(step: &Decision) -> Option<SiteId>
     ensures { result ≡ named_site step.now }
 {
     match step {
@@ -104,7 +104,7 @@ pub(crate) fn is_unbarred(inst: &Instance, path: &Path, site: usize, cust: usize
     }
 }
 
-fn is_barred(path: &Path, site: SiteId, cust: CustId) -> bool
+pub(crate) fn is_barred(path: &Path, site: SiteId, cust: CustId) -> bool
     ensures { result ≡ list_any (bars_lane site cust) path.now }
 {
     if path.is_of_sites() {

@@ -1,4 +1,4 @@
-ghost use Rattle.std.specs.Prelude.{◌≤◌, IsTrue};
+ghost use Rattle.std.specs.Prelude.{◌<◌, ◌≤◌, IsTrue, length};
 ghost use Rattle.instance_store.specs.Small.{IsSmall};
 ghost use Rattle.location_terms.specs.Fit.{DualsFit};
 
@@ -8,24 +8,24 @@ use std::alloc::Global;
 use std::test::Fail;
 
 // Two sites and three customers without demand, in millionths.
-fn example(alloc: Global, lo: u32, hi: u32) -> Result<Instance, NoMemory>
+pub(crate) fn example(alloc: Global, lo: u32, hi: u32) -> Result<Instance, NoMemory>
     requires order { lo ≤ hi }
     requires few { hi ≤ 3000 }
 {
-    let near = vec![in alloc; Some(1_000_000), Some(2_000_000), Some(9_000_000)]?;
-    let far = vec![in alloc; Some(8_000_000), Some(7_000_000), Some(1_000_000)]?;
+    let near = LaneRow::from_slice(alloc, &[Some(1_000_000), Some(2_000_000), Some(9_000_000)])?;
+    let far = LaneRow::from_slice(alloc, &[Some(8_000_000), Some(7_000_000), Some(1_000_000)])?;
     let sites = vec![in alloc;
         SiteRow {
             id: SiteId::new(1),
             fixed: 10_000_000,
             cap: None,
-            lanes: LaneRow::from_vec(near)
+            lanes: near
         },
         SiteRow {
             id: SiteId::new(2),
             fixed: 12_000_000,
             cap: None,
-            lanes: LaneRow::from_vec(far)
+            lanes: far
         },
     ]?;
     let custs = vec![in alloc;
@@ -46,21 +46,21 @@ fn example(alloc: Global, lo: u32, hi: u32) -> Result<Instance, NoMemory>
 }
 
 // Two sites with a capacity of 10, and two customers with a demand of 6 each.
-fn capacitated(alloc: Global) -> Result<Instance, NoMemory> {
-    let first = vec![in alloc; Some(6_739_725_000), Some(3_000_000)]?;
-    let second = vec![in alloc; Some(1_250_000), Some(4_000_000)]?;
+pub(crate) fn capacitated(alloc: Global) -> Result<Instance, NoMemory> {
+    let first = LaneRow::from_slice(alloc, &[Some(6_739_725_000), Some(3_000_000)])?;
+    let second = LaneRow::from_slice(alloc, &[Some(1_250_000), Some(4_000_000)])?;
     let sites = vec![in alloc;
         SiteRow {
             id: SiteId::new(1),
             fixed: 7_500_000_000,
             cap: Some(10_000_000),
-            lanes: LaneRow::from_vec(first)
+            lanes: first
         },
         SiteRow {
             id: SiteId::new(2),
             fixed: 500_000,
             cap: Some(10_000_000),
-            lanes: LaneRow::from_vec(second)
+            lanes: second
         },
     ]?;
     let custs = vec![in alloc;
@@ -77,17 +77,21 @@ fn capacitated(alloc: Global) -> Result<Instance, NoMemory> {
 }
 
 // A site of this capacity, and a customer with a demand of 6 at this cost from it.
-fn single(alloc: Global, cap: Option<u64>, cost: Option<u64>) -> Result<Instance, NoMemory>
+pub(crate) fn single(
+    alloc: Global,
+    cap: Option<u64>,
+    cost: Option<u64>,
+) -> Result<Instance, NoMemory>
     requires cap { IsSmall cap }
     requires cost { IsSmall cost }
 {
-    let lanes = vec![in alloc; cost]?;
+    let lanes = LaneRow::from_slice(alloc, &[cost])?;
     let sites = vec![in alloc;
         SiteRow {
             id: SiteId::new(1),
             fixed: 1,
             cap,
-            lanes: LaneRow::from_vec(lanes)
+            lanes
         },
     ]?;
     let custs = vec![in alloc;
@@ -105,7 +109,7 @@ fn duals(alloc: Global, q: u32, nu: i128, v: &[i128], u: &[u64]) -> Result<Duals
     Ok(Duals::from_lists(q, nu, values, prices))
 }
 
-fn path(alloc: Global, steps: &[Decision]) -> Result<Path, NoMemory> {
+pub(crate) fn path(alloc: Global, steps: &[Decision]) -> Result<Path, NoMemory> {
     let mut path = Path::root(alloc);
     for step in steps {
         path.push(*step)?;
@@ -113,24 +117,24 @@ fn path(alloc: Global, steps: &[Decision]) -> Result<Path, NoMemory> {
     Ok(path)
 }
 
-fn opened(site: u32) -> Decision {
+pub(crate) fn opened(site: u32) -> Decision {
     Decision::Opened(SiteId::new(site))
 }
 
-fn closed(site: u32) -> Decision {
+pub(crate) fn closed(site: u32) -> Decision {
     Decision::Closed(SiteId::new(site))
 }
 
-fn yes(site: u32, cust: u32) -> Decision {
+pub(crate) fn yes(site: u32, cust: u32) -> Decision {
     Decision::Yes(SiteId::new(site), CustId::new(cust))
 }
 
-fn no(site: u32, cust: u32) -> Decision {
+pub(crate) fn no(site: u32, cust: u32) -> Decision {
     Decision::No(SiteId::new(site), CustId::new(cust))
 }
 
 // Whether there is a dual for each customer and a price for each site, all within their limits.
-fn fit(inst: &Instance, duals: &Duals) -> bool
+pub(crate) fn fit(inst: &Instance, duals: &Duals) -> bool
     ensures { IsTrue result → DualsFit inst.now duals.now }
 {
     duals.customers() == inst.custs() && duals.sites() == inst.sites() && fits(duals, inst).is_ok()
@@ -139,105 +143,15 @@ fn fit(inst: &Instance, duals: &Duals) -> bool
 // Duals as they are written down: a scale, the price of a site's count, and a value for each customer
 // and a price for each site.
 #[derive(Clone, Copy)]
-struct Prices<'a> {
-    q: u32,
-    nu: i128,
-    v: &'a [i128],
-    u: [u64; 2],
+pub(crate) struct Prices<'a> {
+    pub(crate) q: u32,
+    pub(crate) nu: i128,
+    pub(crate) v: &'a [i128],
+    pub(crate) u: &'a [u64],
 }
 
-fn duals_of(alloc: Global, prices: Prices<'_>) -> Result<Duals, NoMemory> {
-    duals(alloc, prices.q, prices.nu, prices.v, &prices.u)
-}
-
-fn has_slack(inst: &Instance, path: &Path, duals: &Duals, site: usize, expected: i128) -> bool {
-    site < inst.sites() && fit(inst, duals) && slack(inst, path, duals, site) == expected
-}
-
-fn has_bound(inst: &Instance, path: &Path, duals: &Duals, expected: i128) -> bool {
-    fit(inst, duals) && bound(inst, path, duals) == expected
-}
-
-// Whether the box of these steps leaves both sites these slacks, and has this bound.
-fn is_bounded(
-    alloc: Global,
-    inst: &Instance,
-    path: &Path,
-    prices: Prices<'_>,
-    slacks: [i128; 2],
-    expected: i128,
-) -> bool {
-    let Ok(duals) = duals_of(alloc, prices) else {
-        return false;
-    };
-    has_slack(inst, path, &duals, 0, slacks[0])
-        && has_slack(inst, path, &duals, 1, slacks[1])
-        && has_bound(inst, path, &duals, expected)
-}
-
-fn bounds_the_root(alloc: Global, inst: &Instance) -> bool {
-    let prices = Prices {
-        q: 1,
-        nu: 0,
-        v: &[11_000_000, 2_000_000, 9_000_000],
-        u: [0, 0],
-    };
-    let root = Path::root(alloc);
-    is_bounded(alloc, inst, &root, prices, [0, 1_000_000], 22_000_000)
-}
-
-// No customer pays in a torn box, so that one millionth alone is a bound that no plan meets.
-fn bounds_a_torn_box(alloc: Global, inst: &Instance) -> bool {
-    let prices = Prices {
-        q: 0,
-        nu: 0,
-        v: &[1, 0, 0],
-        u: [0, 0],
-    };
-    match path(alloc, &[opened(1), closed(1)]) {
-        Ok(torn) => is_torn(inst, &torn) && is_bounded(alloc, inst, &torn, prices, [0, 0], 1),
-        Err(_) => false,
-    }
-}
-
-fn prices_the_count(
-    alloc: Global,
-    inst: &Instance,
-    nu: i128,
-    slacks: [i128; 2],
-    expected: i128,
-) -> bool {
-    let prices = Prices {
-        q: 1,
-        nu,
-        v: &[11_000_000, 2_000_000, 9_000_000],
-        u: [0, 0],
-    };
-    is_bounded(alloc, inst, &Path::root(alloc), prices, slacks, expected)
-}
-
-// The count is 1 to 2: a refund of half a unit a site is paid once, and a charge twice.
-fn prices_counts(alloc: Global) -> bool {
-    let Ok(inst) = example(alloc, 1, 2) else {
-        return false;
-    };
-    prices_the_count(alloc, &inst, -500_000, [-500_000, 500_000], 22_000_000)
-        && prices_the_count(alloc, &inst, 500_000, [500_000, 1_500_000], 21_000_000)
-}
-
-// Site 1 is priced at 3: its lanes cost 6,739,743,000,000 and 3,018,000,000, so that the customers
-// pay 7,000,000 and 982,000,000 above them, and its capacity takes 30,000,000 off. At site 2, which
-// is not priced, the second customer pays nothing.
-fn prices_a_capacity(alloc: Global, inst: &Instance) -> bool {
-    let prices = Prices {
-        q: 1_000,
-        nu: 0,
-        v: &[6_739_750_000_000, 4_000_000_000],
-        u: [3, 0],
-    };
-    let slacks = [7_498_981_000_000, -6_738_000_000_000];
-    let root = Path::root(alloc);
-    is_bounded(alloc, inst, &root, prices, slacks, 5_750_000_000)
+pub(crate) fn duals_of(alloc: Global, prices: Prices<'_>) -> Result<Duals, NoMemory> {
+    duals(alloc, prices.q, prices.nu, prices.v, prices.u)
 }
 
 #[test]
@@ -277,7 +191,7 @@ fn has_fault(
         q,
         nu,
         v: &[0, value, 0],
-        u: [0, price],
+        u: &[0, price],
     };
     match duals_of(alloc, prices) {
         Ok(duals) => fault(inst, &duals) == Some(expected),
@@ -317,12 +231,11 @@ fn is_tame(alloc: Global, inst: &Instance, price: u64, expected: bool) -> bool {
 }
 
 // A demand of 6,000,000 at these prices is just within 10^23, and just above it.
-fn prices_capacities(alloc: Global) -> bool {
+fn limits_prices(alloc: Global) -> bool {
     let Ok(inst) = capacitated(alloc) else {
         return false;
     };
-    prices_a_capacity(alloc, &inst)
-        && is_tame(alloc, &inst, 16_666_666_666_666_666, true)
+    is_tame(alloc, &inst, 16_666_666_666_666_666, true)
         && is_tame(alloc, &inst, 16_666_666_666_666_667, false)
 }
 
@@ -339,6 +252,24 @@ fn are_states(inst: &Instance, path: &Path, states: [SiteState; 2]) -> bool {
         && site_state(inst, path, 1) == states[1]
 }
 
+fn are_prepared_states(
+    alloc: Global,
+    inst: &Instance,
+    path: &Path,
+    states: [SiteState; 2],
+) -> bool {
+    match PreparedBox::of(alloc, inst, path) {
+        Ok(boxed) => has_prepared(&boxed, 0, states[0]) && has_prepared(&boxed, 1, states[1]),
+        Err(_) => false,
+    }
+}
+
+fn has_prepared(boxed: &PreparedBox<'_>, site: usize, state: SiteState) -> bool {
+    site < boxed.instance().sites()
+        && boxed.state(site) == state
+        && boxed.is_opened(site) == (state == SiteState::Opened)
+}
+
 // Whether the steps settle the two sites so.
 fn has_states(
     alloc: Global,
@@ -347,7 +278,9 @@ fn has_states(
     states: [SiteState; 2],
 ) -> bool {
     match path(alloc, &steps) {
-        Ok(path) => are_states(inst, &path, states),
+        Ok(path) => {
+            are_states(inst, &path, states) && are_prepared_states(alloc, inst, &path, states)
+        }
         Err(_) => false,
     }
 }
@@ -367,6 +300,31 @@ fn are_lanes(inst: &Instance, path: &Path, torn: bool, lanes: [[bool; 3]; 2]) ->
         && leaves_lanes(inst, path, 1, lanes[1])
 }
 
+fn are_prepared_lanes(alloc: Global, inst: &Instance, path: &Path, lanes: [[bool; 3]; 2]) -> bool {
+    match PreparedBox::of(alloc, inst, path) {
+        Ok(boxed) => admits_lanes(&boxed, 0, lanes[0]) && admits_lanes(&boxed, 1, lanes[1]),
+        Err(_) => false,
+    }
+}
+
+fn admits_lanes(boxed: &PreparedBox<'_>, site: usize, lanes: [bool; 3]) -> bool {
+    let inst = boxed.instance();
+    site < inst.sites()
+        && inst.custs() == 3
+        && admits(boxed, site, 0) == lanes[0]
+        && admits(boxed, site, 1) == lanes[1]
+        && admits(boxed, site, 2) == lanes[2]
+}
+
+// Whether there is a lane, and the box admits it.
+fn admits(boxed: &PreparedBox<'_>, site: usize, cust: usize) -> bool
+    requires site { site < length boxed.now.instance.sites }
+    requires customer { cust < length boxed.now.instance.customers }
+{
+    let inst = boxed.instance();
+    inst.lane(site, cust).is_some() && boxed.admits(site, cust, inst.demand(cust))
+}
+
 // Whether the steps tear the box or not, and let each site serve exactly these customers.
 fn has_lanes(
     alloc: Global,
@@ -376,7 +334,9 @@ fn has_lanes(
     lanes: [[bool; 3]; 2],
 ) -> bool {
     match path(alloc, steps) {
-        Ok(path) => are_lanes(inst, &path, torn, lanes),
+        Ok(path) => {
+            are_lanes(inst, &path, torn, lanes) && are_prepared_lanes(alloc, inst, &path, lanes)
+        }
         Err(_) => false,
     }
 }
@@ -413,8 +373,11 @@ fn bars_lanes(alloc: Global, inst: &Instance) -> bool {
 fn goes_by_statuses(alloc: Global, inst: &mut Instance) -> bool {
     settle(inst, [SiteStatus::MustOpen, SiteStatus::MustClose]);
     let root = Path::root(alloc);
-    are_states(inst, &root, [SiteState::Opened, SiteState::Closed])
+    let states = [SiteState::Opened, SiteState::Closed];
+    are_states(inst, &root, states)
+        && are_prepared_states(alloc, inst, &root, states)
         && are_lanes(inst, &root, false, [ALL, NONE])
+        && are_prepared_lanes(alloc, inst, &root, [ALL, NONE])
 }
 
 fn tears_the_box(alloc: Global, inst: &mut Instance) -> bool {
@@ -499,9 +462,19 @@ fn replaces_a_dual(alloc: Global, inst: &Instance) -> bool {
 
 fn is_copied(duals: &Duals, value: i128) -> bool {
     match duals.copied() {
-        Ok(copy) => has_second(&copy, value),
+        Ok(mut copy) => has_second(&copy, value) && takes_over(&mut copy, duals, value),
         Err(_) => false,
     }
+}
+
+// Whether the values are there again where they were changed and then taken over.
+fn takes_over(copy: &mut Duals, duals: &Duals, value: i128) -> bool {
+    if copy.customers() != duals.customers() || copy.customers() < 2 {
+        return false;
+    }
+    copy.set_v(1, -9);
+    copy.copy_values(duals);
+    has_second(copy, value)
 }
 
 fn copies_duals(alloc: Global) -> bool {
@@ -520,16 +493,13 @@ fn paths_duals_and_capacities(rt: HostRuntime) {
     assert!(rt; serves(alloc, Some(6_000_000), Some(5), true));
     assert!(rt; serves(alloc, Some(5_999_999), Some(5), false));
     assert!(rt; serves(alloc, None, None, false));
-    assert!(rt; prices_counts(alloc));
-    assert!(rt; prices_capacities(alloc));
+    assert!(rt; limits_prices(alloc));
 }
 
 #[test]
-fn boxes_of_the_example(rt: HostRuntime) -> Result<(), Fail> {
+fn decisions_on_the_example(rt: HostRuntime) -> Result<(), Fail> {
     let alloc = rt.alloc();
     let mut inst = example(alloc, 0, 3_000)?;
-    assert!(rt; bounds_the_root(alloc, &inst));
-    assert!(rt; bounds_a_torn_box(alloc, &inst));
     assert!(rt; finds_the_first_fault(alloc, &inst));
     assert!(rt; replaces_a_dual(alloc, &inst));
     assert!(rt; settles_free_sites(alloc, &inst));

@@ -4,3 +4,4 @@ pub mod Above
 pub mod Blocks
 pub mod Walks
 pub mod Counts
+pub mod Spread

@@ -6,6 +6,7 @@ ghost use Rattle.lane_order.specs.Building.{first_lanes, IsAdded, AreBlocks};
 
 use crate::order::{Block, PlacedLane};
 use crate::{Instance, NoMemory, SiteId};
+use instance_store::LaneRow;
 use std::alloc::Global;
 
 /// The ids of the sites, by place.
@@ -46,10 +47,16 @@ fn lane_count(inst: &Instance) -> usize
     count
 }
 
-fn row_count(lanes: &[Option<u64>]) -> usize
+fn row_count(lanes: &LaneRow) -> usize
     ensures { result ≤ length lanes.now }
 {
-    lanes.iter().filter(|lane| lane.is_some()).count()
+    let mut count = 0;
+    for cust in 0..lanes.len() {
+        if lanes.get(cust).is_some() {
+            count += 1;
+        }
+    }
+    count
 }
 
 // The lanes to the customer go behind those that are there.

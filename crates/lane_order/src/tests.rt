@@ -5,20 +5,20 @@ use std::test::Fail;
 
 // Two sites and three customers, in millionths, and a lane for each pair.
 fn plain(alloc: Global) -> Result<Instance, Fail> {
-    let near = vec![in alloc; Some(1_000_000), Some(2_000_000), Some(9_000_000)]?;
-    let far = vec![in alloc; Some(8_000_000), Some(7_000_000), Some(1_000_000)]?;
+    let near = LaneRow::from_slice(alloc, &[Some(1_000_000), Some(2_000_000), Some(9_000_000)])?;
+    let far = LaneRow::from_slice(alloc, &[Some(8_000_000), Some(7_000_000), Some(1_000_000)])?;
     let sites = vec![in alloc;
         SiteRow {
             id: SiteId::new(1),
             fixed: 10_000_000,
             cap: None,
-            lanes: LaneRow::from_vec(near)
+            lanes: near
         },
         SiteRow {
             id: SiteId::new(2),
             fixed: 12_000_000,
             cap: None,
-            lanes: LaneRow::from_vec(far)
+            lanes: far
         },
     ]?;
     let custs = vec![in alloc;
@@ -40,27 +40,27 @@ fn plain(alloc: Global) -> Result<Instance, Fail> {
 
 // Three sites, two of which cost the first customer the same. The second one has a single lane.
 fn tied(alloc: Global) -> Result<Instance, Fail> {
-    let low = vec![in alloc; Some(7), None]?;
-    let middle = vec![in alloc; Some(2), Some(4)]?;
-    let high = vec![in alloc; Some(2), None]?;
+    let low = LaneRow::from_slice(alloc, &[Some(7), None])?;
+    let middle = LaneRow::from_slice(alloc, &[Some(2), Some(4)])?;
+    let high = LaneRow::from_slice(alloc, &[Some(2), None])?;
     let sites = vec![in alloc;
         SiteRow {
             id: SiteId::new(3),
             fixed: 0,
             cap: None,
-            lanes: LaneRow::from_vec(low)
+            lanes: low
         },
         SiteRow {
             id: SiteId::new(5),
             fixed: 0,
             cap: None,
-            lanes: LaneRow::from_vec(middle)
+            lanes: middle
         },
         SiteRow {
             id: SiteId::new(9),
             fixed: 0,
             cap: None,
-            lanes: LaneRow::from_vec(high)
+            lanes: high
         },
     ]?;
     let custs = vec![in alloc;

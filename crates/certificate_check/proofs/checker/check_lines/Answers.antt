@@ -1,7 +1,9 @@
-use Rattle.std.proofs.Common.{◌≡◌, rules, sym, ◌∙◌, inr, arith, Err}
+use Rattle.std.proofs.Common.{◌≡◌, ◌+◌, ◌≤◌, rules, sym, ap, subst, ◌∙◌, inl, inr, arith, Err}
 use Rattle.std.specs.Prelude.{None}
+use Rattle.shelf_lines.specs.Rest.{LineState, unread}
 use Rattle.certificate_lines.specs.Form.{due_of}
 use Rattle.certificate_check.specs.Step.{claim_behind}
+use Rattle.certificate_check.proofs.Passed.{passed_none}
 use Rattle.certificate_check.proofs.Exits.{closes, misses, stops, stops_at, goes_on, line_found}
 use Rattle.certificate_check.proofs.checker.check_lines.Goals as goal
 
@@ -29,6 +31,7 @@ returns-in-Says-clause-answer g c =
 pub loop-claim-preserved : goal.loop-claim-preserved
 loop-claim-preserved g c = record {
   passed = goes_on _ _ _ _ _ _ _ _ _ _ _ c.loop-claim.invariant.unchanged c.line.ensures c.in_ok-hand_out.ensures.is_line c.in_ok-hand_out.ensures.rest c.in_ok-hand_out.ensures.unread c.loop-claim.invariant.passed (rw c.in-On.is at c.in_ok-due.ensures.step);
+  bounds = c.in_ok-due.ensures.kept ∙ c.loop-claim.invariant.bounds;
   ready = rw c.in-On.is at c.in_ok-due.ensures.ready;
   there = inr (line_found _ _ _ _ c.loop-claim.reader c.loop-claim.invariant.unchanged c.loop-claim.invariant.there c.in_ok-hand_out.ensures.there);
   counted = omega (arith, c.in_ok-hand_out.ensures.unread, c.loop-claim.invariant.counted);
@@ -36,4 +39,17 @@ loop-claim-preserved g c = record {
   unchanged = c.in_ok-hand_out.ensures.unchanged ∙ c.loop-claim.invariant.unchanged;
   reads = λ name. omega (arith, c.in_ok-hand_out.ensures.reads name, c.loop-claim.invariant.reads name);
   writes = λ name. omega (arith, c.in_ok-hand_out.ensures.writes name, c.loop-claim.invariant.writes name);
+}
+
+pub loop-claim-init : goal.loop-claim-init
+loop-claim-init g c = record {
+  passed = passed_none c.args.inst.now _ c.args.name.now c.args.reader.now.limit c.args.reader.now c.requires.start;
+  bounds = c.of-bounds.ensures;
+  ready = search rules;
+  there = inl (search rules, ap (λ (r : LineState). r.ahead) c.requires.start);
+  counted = subst (λ (r : LineState). 1 + unread r ≤ r.limit + 1) (sym c.requires.start) (omega arith);
+  same_limit = search rules;
+  unchanged = search rules;
+  reads = λ name. omega arith;
+  writes = λ name. omega arith;
 }

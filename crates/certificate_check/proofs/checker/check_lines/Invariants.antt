@@ -10,6 +10,7 @@ use Rattle.certificate_check.proofs.checker.check_lines.Given as goal
 abbrev pub invariant-loop-claim : goal.invariant-loop-claim
 invariant-loop-claim g l = record {
   passed : Passed l.inst (g.H.Shelf.files l.fn.shelf) l.name l.fn.reader.limit (due_of l.form) l.line l.reader;
+  bounds : l.bounds ≡ l.inst;
   ready : Suits l.inst (due_of l.form);
   there : ((due_of l.form ≡ HeaderDue) × (l.reader.ahead ≡ [])) ⊎ HasFile (g.H.Shelf.files l.fn.shelf) l.name (λ _. ⊤);
   counted : l.line + unread l.reader ≤ l.fn.reader.limit + 1;

@@ -1,6 +1,6 @@
 use Rattle.std.proofs.Common.{sym, subst, lit≤}
 use Rattle.location_terms.specs.Fit.{DualsFit}
-use Rattle.branch_tree.proofs.Stored.{zeros_fit}
+use Rattle.dual_value.proofs.Zeros.{zeros_fit}
 use Rattle.branch_tree.proofs.tree.Tree.root.Goals as goal
 
 pub leaf-requires : goal.leaf-requires
