@@ -59,7 +59,7 @@ module _ (I : Instance) (path : Path) where
   all_unmoved d [] seats = refl
   all_unmoved d (j ∷ js) seats = ap (λ f. fold (seated I path) f js) (unmoved d j (All-head (IsSeated d) j js seats)) ∙ all_unmoved d js (All-tail (IsSeated d) j js seats)
 
-  no_rounds : (customers : List ℕ) (d : Duals) → rounds I path customers d 0 ≡ d
+  pub no_rounds : (customers : List ℕ) (d : Duals) → rounds I path customers d 0 ≡ d
   unfolding rounds
   no_rounds customers d = refl
 

@@ -19,7 +19,7 @@ use Rattle.dual_ascent.proofs.Rise.{least_among, rise, rise_leaves}
 use Rattle.dual_ascent.proofs.Raised.{IsRisen, raised_blocked, raised_free}
 
 -- what is paid above a level is no less than nothing
-paid_at_least : (allowed : Bool) (v level : ℤ) → pos 0 ≤ℤ (if allowed then int_max (pos 0) (v -ℤ level) else pos 0)
+pub paid_at_least : (allowed : Bool) (v level : ℤ) → pos 0 ≤ℤ (if allowed then int_max (pos 0) (v -ℤ level) else pos 0)
 paid_at_least true v level = omega (arith, ints, clamps)
 paid_at_least false v level = omega (arith, ints)
 

@@ -12,5 +12,14 @@ pub mod Results
 pub mod Measured
 pub mod Again
 pub mod Plain
+pub mod Small
 pub mod Blocked
 pub mod Turns
+pub mod Sized
+pub mod Walked
+pub mod Offers
+pub mod Looked
+pub mod Lowered
+pub mod Seated
+pub mod Blockers
+pub mod Climbed

@@ -1,5 +1,5 @@
 -- The ascent from zeros: its duals, its slacks and its bound are 0 or more.
-use Rattle.std.proofs.Common.{◌≡◌, ℕ, ◌*◌, ◌<◌, ◌≤◌, refl, ap, ◌∙◌, arith, Bool, true, false, length, replicate, Option, Some, None, ℤ, pos, ◌-ℤ◌, ◌≤ℤ◌}
+use Rattle.std.proofs.Common.{◌≡◌, ℕ, ◌*◌, ◌<◌, ◌≤◌, refl, ap, ◌∙◌, arith, Bool, true, false, length, Option, Some, None, ℤ, pos, ◌-ℤ◌, ◌≤ℤ◌}
 use Rattle.std.specs.Prelude.{All, unsigned_abs, if◌then◌else◌}
 use Rattle.std.specs.Int.{int_max, int_min}
 use Rattle.std.proofs.lemmas.Int.{ints, clamps}
@@ -11,13 +11,11 @@ use Rattle.location_terms.specs.Bound.{Duals, AreDualsOf, v_at, u_at, paid_at, c
 use Rattle.location_terms.specs.Fit.{AreInLimits, AreTame}
 use Rattle.location_terms.specs.declared.limits.TheConstants.{MAX_SCALE, MAX_VALUE, MAX_TAME, MAX_MULTIPLIER}
 use Rattle.location_terms.proofs.Totals.{total_zero, total_le}
+use Rattle.dual_value.specs.Zeros.{zeros}
+use Rattle.dual_value.proofs.Zeros.{zero_v, zero_u, zeros_fit}
 use Rattle.dual_ascent.specs.Ascent.{IsAscended}
 use Rattle.dual_ascent.specs.Kept.{Keeps}
 use Rattle.dual_ascent.proofs.Results.{ascended_keeps}
-
--- duals of 0 at this scale
-abbrev pub zeros : Instance → ℕ → Duals
-zeros I q = record { q = q; nu = pos 0; v = replicate (length I.customers) (pos 0); u = replicate (length I.sites) 0 }
 
 nothing_paid : (allowed : Bool) (v : ℤ) (level : ℕ) → v ≡ pos 0 → (if allowed then int_max (pos 0) (v -ℤ pos level) else pos 0) ≡ pos 0
 nothing_paid true v level e = omega (arith, ints, clamps)
@@ -33,41 +31,31 @@ share_at_least false true slack low = omega (arith, ints, clamps)
 share_at_least false false slack low = omega (arith, ints)
 
 module _ (I : Instance) (path : Path) (q : ℕ) where
-  zero_v : (k : ℕ) → k < length I.customers → v_at (zeros I q) k ≡ pos 0
-  zero_v k b = get_or-replicate (length I.customers) k (pos 0) (pos 0) b
-
-  zero_u : (i : ℕ) → i < length I.sites → u_at (zeros I q) i ≡ 0
-  zero_u i b = get_or-replicate (length I.sites) i 0 0 b
-
   pub zero_slack : (i : ℕ) → i < length I.sites → pos 0 ≤ℤ slack_of I path (zeros I q) i
   zero_slack i b =
-      let unpaid = total_zero (paid_at I path (zeros I q) i) (length I.customers) (λ k c. nothing_paid (is_allowed I path (site_at I i) (customer_at I k)) (v_at (zeros I q) k) _ (zero_v k c)) in
-      omega (arith, ints, unpaid, no_cap_price (u_at (zeros I q) i) (site_at I i).cap (zero_u i b))
+      let unpaid = total_zero (paid_at I path (zeros I q) i) (length I.customers) (λ k c. nothing_paid (is_allowed I path (site_at I i) (customer_at I k)) (v_at (zeros I q) k) _ (zero_v I q k c)) in
+      omega (arith, ints, unpaid, no_cap_price (u_at (zeros I q) i) (site_at I i).cap (zero_u I q i b))
 
   pub zero_bound : pos 0 ≤ℤ bound_of I path (zeros I q)
   zero_bound =
       let shares = total_le (λ _. pos 0) (share_of I path (zeros I q)) (length I.sites) (λ i b. share_at_least (is_opened path (site_at I i)) (is_free path (site_at I i)) (slack_of I path (zeros I q) i) (zero_slack i b)) in
       let free : 0 * I.hi ≡ 0 = omega arith in
-      omega (arith, ints, shares, free, total_zero (λ _. pos 0) (length I.sites) (λ _ _. refl), total_zero (v_at (zeros I q)) (length I.customers) zero_v)
+      omega (arith, ints, shares, free, total_zero (λ _. pos 0) (length I.sites) (λ _ _. refl), total_zero (v_at (zeros I q)) (length I.customers) (zero_v I q))
 
   module _ (scaled : 1 ≤ q) (small : q ≤ MAX_SCALE) where
     pub zeros_are_tame : AreTame I (zeros I q)
     zeros_are_tame =
-        let in_limits : AreInLimits (zeros I q) =
-        record { scale = small; count_price = omega arith; values = All-replicate (λ v. unsigned_abs v ≤ MAX_VALUE) (length I.customers) (pos 0) (omega arith); multipliers = All-replicate (λ u. u ≤ MAX_MULTIPLIER) (length I.sites) 0 (omega arith) } in
-        let of_instance : AreDualsOf I (zeros I q) =
-        record { customers = length-replicate (length I.customers) (pos 0); sites = length-replicate (length I.sites) 0; unpriced = λ i b _. zero_u i b } in
-        record { fit = record { in_limits = in_limits; of_instance = of_instance }; scaled = scaled; count_price = omega arith; demand_prices = All-replicate (λ u. All (λ c. u * c.demand ≤ MAX_TAME) I.customers) (length I.sites) 0 (λ k d b. omega arith) }
+        record { fit = zeros_fit I q small; scaled = scaled; count_price = omega arith; demand_prices = All-replicate (λ u. All (λ c. u * c.demand ≤ MAX_TAME) I.customers) (length I.sites) 0 (λ k d b. omega arith) }
 
     module _ (valid : IsValid I) (e : Duals) (asc : IsAscended I path (zeros I q) e) where
-      keeps : Keeps I path (zeros I q) e
-      keeps = ascended_keeps I path valid (zeros I q) zeros_are_tame e asc
+      pub plain_keeps : Keeps I path (zeros I q) e
+      plain_keeps = ascended_keeps I path valid (zeros I q) zeros_are_tame e asc
 
       pub plain_values : (k : ℕ) → k < length I.customers → pos 0 ≤ℤ v_at e k
-      plain_values k b = omega (arith, ints, keeps.no_lower k, zero_v k b)
+      plain_values k b = omega (arith, ints, plain_keeps.no_lower k, zero_v I q k b)
 
       pub plain_slacks : (i : ℕ) → i < length I.sites → pos 0 ≤ℤ slack_of I path e i
-      plain_slacks i b = keeps.slacks i b (zero_slack i b)
+      plain_slacks i b = plain_keeps.slacks i b (zero_slack i b)
 
       pub plain_bound : pos 0 ≤ℤ bound_of I path e
-      plain_bound = omega (arith, ints, keeps.bound, zero_bound)
+      plain_bound = omega (arith, ints, plain_keeps.bound, zero_bound)

@@ -16,7 +16,7 @@ use Rattle.dual_ascent.proofs.Rounds.{AreKnown, ascended_is_risen}
 use Rattle.dual_ascent.proofs.Ceiling.{HasRoom, IsUnder}
 use Rattle.dual_ascent.proofs.Ends.{ascended_under, ascent_ends}
 
-cost_small : (o : Option ℕ) (n : ℕ) → IfSome o (λ c. c ≤ n) → unwrap_or o 0 ≤ n
+pub cost_small : (o : Option ℕ) (n : ℕ) → IfSome o (λ c. c ≤ n) → unwrap_or o 0 ≤ n
 cost_small None n h = omega arith
 cost_small (Some c) n h = h
 

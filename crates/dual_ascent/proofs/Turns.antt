@@ -1,9 +1,10 @@
 -- A round made customer by customer, in the order of the places, by one who passes over those that a test does not pick.
-use Rattle.std.proofs.Common.{◌≡◌, ℕ, ◌+◌, ◌<◌, ◌≤◌, refl, ap, arith, Bool, true, cond, List, [], ◌∷◌, length, ℤ, pos, negsuc, ◌≤ℤ◌, ◌<ℤ◌}
-use Rattle.std.specs.Prelude.{◌⊎◌, filter}
+use Rattle.std.proofs.Common.{◌≡◌, ℕ, ◌+◌, ◌<◌, ◌≤◌, refl, sym, ap, subst, ◌∙◌, arith, Bool, true, false, cond, List, [], ◌∷◌, length, ℤ, pos, negsuc, ◌≤ℤ◌, ◌<ℤ◌}
+use Rattle.std.specs.Prelude.{◌||◌, not, filter}
 use Rattle.std.specs.List.{fold, range_with_len}
 use Rattle.std.specs.Int.{int_gap}
 use Rattle.std.proofs.lemmas.Int.{ints}
+use Rattle.std.proofs.lemmas.Bool.{not-true, not-false}
 use Rattle.std.proofs.lemmas.List.Elements.{All-filter, All-weaker}
 use Rattle.location_terms.specs.Instance.{Instance, IsValid}
 use Rattle.location_terms.specs.Box.{Path}
@@ -12,10 +13,11 @@ use Rattle.location_terms.specs.Fit.{AreTame}
 use Rattle.location_terms.specs.declared.limits.TheConstants.{MAX_VALUE}
 use Rattle.location_terms.proofs.Totals.{total_le}
 use Rattle.dual_ascent.specs.Levels.{customer_places}
-use Rattle.dual_ascent.specs.Ascent.{seated, raised, round}
-use Rattle.dual_ascent.proofs.Raised.{IsRisen}
-use Rattle.dual_ascent.proofs.Rounds.{AreKnown, value_sum, seats_are_risen, raises_are_risen, raises_move}
-use Rattle.dual_ascent.proofs.Ceiling.{HasRoom, IsUnder, places_below}
+use Rattle.dual_ascent.specs.Ascent.{is_blocked, seated, raised, round}
+use Rattle.dual_ascent.specs.Steps.{HasMoved}
+use Rattle.dual_ascent.proofs.Raised.{IsRisen, raised_is_risen, raised_more, raised_blocked}
+use Rattle.dual_ascent.proofs.Rounds.{AreKnown, value_sum, sum_is_risen, seats_are_risen, raises_are_risen}
+use Rattle.dual_ascent.proofs.Ceiling.{HasRoom, IsUnder, places_below, raised_under}
 use Rattle.dual_ascent.proofs.Ends.{seats_under, round_under}
 use Rattle.dual_ascent.proofs.Tame.{tame_has_room, tame_is_under, tame_rises}
 use Rattle.dual_ascent.proofs.Measured.{fold_next}
@@ -69,10 +71,6 @@ module _ (I : Instance) (path : Path) (p : ℕ → Bool) where
     pub turns_rise : IsRisen I path d (turns d k)
     turns_rise = raises_are_risen I path d long (first k) (first_known k b)
 
-    -- so far nothing changed, or the sum of the duals is greater
-    pub turns_move : (turns d k ≡ d) ⊎ (value_sum I path d <ℤ value_sum I path (turns d k))
-    turns_move = raises_move I path d long (first k) (first_known k b)
-
     module _ (valid : IsValid I) (tame : AreTame I d) where
       turns_under : IsUnder I path (pos MAX_VALUE) (turns d k)
       unfolding round
@@ -84,6 +82,26 @@ module _ (I : Instance) (path : Path) (p : ℕ → Bool) where
 
       pub turns_tame : AreTame I (turns d k)
       turns_tame = tame_rises I path valid d tame (turns d k) turns_rise turns_under
+
+-- the duals after one turn are tame
+pub raised_tame : (I : Instance) (path : Path) → IsValid I → (d : Duals) → AreTame I d → (j : ℕ) → j < length I.customers → AreTame I (raised I path d j)
+raised_tame I path valid d tame j known =
+    let here : j < length d.v = omega (arith, known, tame.fit.of_instance.customers) in
+    tame_rises I path valid d tame (raised I path d j) (raised_is_risen I path d j known here)
+    (raised_under I path (pos MAX_VALUE) d (tame_has_room I path valid d tame) (tame_is_under I path valid d tame) j known here)
+
+-- whether a dual rose so far, after one more turn
+pub moved_next : (I : Instance) (path : Path) (d e f : Duals) (j : ℕ) (known : j < length I.customers) (here : j < length e.v) (moved rose : Bool) → f ≡ raised I path e j → rose ≡ not (is_blocked I path e j) → HasMoved I d e moved → HasMoved I d f (moved || rose)
+moved_next I path d e f j known here true rose is says sooner =
+    let later = sum_is_risen I path e (raised I path e j) (raised_is_risen I path e j known here) in
+    subst (λ (g : Duals). value_sum I path d <ℤ value_sum I path g) (sym is) (omega (arith, ints, sooner, later))
+moved_next I path d e f j known here false true is says still =
+    let free : is_blocked I path e j ≡ false = not-true (is_blocked I path e j) (sym says) in
+    let more = raised_more I path e j known here free in
+    subst (λ (g : Duals). value_sum I path d <ℤ value_sum I path g) (sym is) (subst (λ (g : Duals). value_sum I path g <ℤ value_sum I path (raised I path e j)) still more)
+moved_next I path d e f j known here false false is says still =
+    let blocked : is_blocked I path e j ≡ true = not-false (is_blocked I path e j) (sym says) in
+    is ∙ raised_blocked I path e j blocked ∙ still
 
 -- what is left below a limit for all customers falls with each round that changes something
 pub left_falls : (I : Instance) (path : Path) (limit : ℤ) (customers : List ℕ) → AreKnown I path customers → (d : Duals) → length d.v ≡ length I.customers → HasRoom I path limit d → IsUnder I path limit d

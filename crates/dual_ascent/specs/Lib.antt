@@ -1,3 +1,5 @@
 pub mod Levels
 pub mod Ascent
 pub mod Kept
+pub mod Work
+pub mod Steps
