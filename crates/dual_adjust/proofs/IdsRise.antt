@@ -1,11 +1,11 @@
 -- The ids of picked places rise, so that tight sites and violating customers are listed in order.
-use Rattle.std.proofs.Common.{ℕ, ◌+◌, ◌<◌, arith, Bool, List, map, length, get_or}
+use Rattle.std.proofs.Common.{◌≡◌, ℕ, ◌+◌, ◌<◌, refl, sym, ap, ◌∙◌, arith, Bool, true, false, cond, List, [], ◌∷◌, ◌++◌, map, length, get_or}
 use Rattle.std.specs.Prelude.{filter}
 use Rattle.std.specs.List.{range_with_len}
 use Rattle.std.specs.List.Sorted.{IsStrictlyIncreasing}
-use Rattle.std.proofs.lemmas.List.{length-map, get_or-map}
+use Rattle.std.proofs.lemmas.List.{length-map, get_or-map, map-append, map-id, append-nil}
 use Rattle.std.proofs.lemmas.List.Elements.{All-filter}
-use Rattle.std.proofs.lemmas.List.FromFn.{get_or-range_with_len, length-range_with_len}
+use Rattle.std.proofs.lemmas.List.FromFn.{get_or-range_with_len, length-range_with_len, filter_of_map_range_with_len_more}
 use Rattle.std.proofs.lemmas.List.Kept.{AllPairs-from_increasing, IsStrictlyIncreasing-filter}
 use Rattle.location_terms.specs.Instance.{Instance, IsValid, site_ids, customer_ids, site_at, customer_at}
 use Rattle.location_terms.specs.Box.{Path}
@@ -14,7 +14,7 @@ use Rattle.location_terms.proofs.Places.{length-site_ids, length-customer_ids, s
 use Rattle.dual_ascent.proofs.Ceiling.{places_below}
 use Rattle.dual_adjust.specs.Slackness.{is_tight, tight_sites, is_violating, violations}
 
-places_rise : (n : ℕ) → IsStrictlyIncreasing (range_with_len 0 n)
+pub places_rise : (n : ℕ) → IsStrictlyIncreasing (range_with_len 0 n)
 places_rise n k b =
     let inside : k + 1 < n = omega (arith, b, length-range_with_len 0 n) in
     omega (arith, inside, get_or-range_with_len 0 n k 0 (omega arith), get_or-range_with_len 0 n (k + 1) 0 inside)
@@ -48,3 +48,22 @@ module _ (I : Instance) (path : Path) (d : Duals) (valid : IsValid I) where
 
   pub violations_rise : (sites : List ℕ) → IsStrictlyIncreasing (violations I path d sites)
   violations_rise sites = picked_rise (λ j. (customer_at I j).id) (length I.customers) customers_rise (is_violating I path d sites)
+
+-- one more place, where it is picked
+pub picked_next : (f : ℕ → ℕ) (p : ℕ → Bool) (k : ℕ) → map f (filter p (range_with_len 0 (k + 1))) ≡ map f (filter p (range_with_len 0 k)) ++ cond (p k) (f k ∷ []) []
+picked_next f p k =
+    let same : (n : ℕ) → map (λ i. i) (range_with_len 0 n) ≡ range_with_len 0 n = λ n. map-id (range_with_len 0 n) in
+    let more : filter p (range_with_len 0 (k + 1)) ≡ filter p (range_with_len 0 k) ++ cond (p k) (k ∷ []) [] =
+    ap (filter p) (sym (same (k + 1))) ∙ filter_of_map_range_with_len_more p (λ i. i) 0 k k (omega arith) ∙ ap (λ (ys : List ℕ). filter p ys ++ cond (p k) (k ∷ []) []) (same k) in
+    ap (map f) more ∙ map-append f (filter p (range_with_len 0 k)) (cond (p k) (k ∷ []) []) ∙ ap (λ (ys : List ℕ). map f (filter p (range_with_len 0 k)) ++ ys) (last f (p k) k)
+  where
+    last : (f : ℕ → ℕ) (b : Bool) (k : ℕ) → map f (cond b (k ∷ []) []) ≡ cond b (f k ∷ []) []
+    last f true k = refl
+    last f false k = refl
+
+-- the list of what was picked, with the place's number behind it or without it
+pub list_next : (f : ℕ → ℕ) (p : ℕ → Bool) (k : ℕ) (xs : List ℕ) → xs ≡ map f (filter p (range_with_len 0 k)) → p k ≡ true → xs ++ f k ∷ [] ≡ map f (filter p (range_with_len 0 (k + 1)))
+list_next f p k xs so_far picked = ap (λ (ys : List ℕ). ys ++ f k ∷ []) so_far ∙ sym (picked_next f p k ∙ ap (λ (b : Bool). map f (filter p (range_with_len 0 k)) ++ cond b (f k ∷ []) []) picked)
+
+pub list_same : (f : ℕ → ℕ) (p : ℕ → Bool) (k : ℕ) (xs : List ℕ) → xs ≡ map f (filter p (range_with_len 0 k)) → p k ≡ false → xs ≡ map f (filter p (range_with_len 0 (k + 1)))
+list_same f p k xs so_far passed = so_far ∙ sym (picked_next f p k ∙ ap (λ (b : Bool). map f (filter p (range_with_len 0 k)) ++ cond b (f k ∷ []) []) passed ∙ append-nil (map f (filter p (range_with_len 0 k))))

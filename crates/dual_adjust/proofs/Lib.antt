@@ -1,3 +1,10 @@
 pub mod Lowered
 pub mod IdsRise
 pub mod Tight
+pub mod MoreThanOne
+pub mod Violating
+pub mod PlacesPaid
+pub mod PlacesOf
+pub mod LanesPaid
+pub mod Greatest
+pub mod Gained

@@ -87,11 +87,19 @@ module _ (I : Instance) (path : Path) (d : Duals) (j : ℕ) where
       abs_from l MAX_VALUE (omega (arith, ints, high, less)) (omega (arith, ints, low))
 
   module _ (valid : IsValid I) (tame : AreTame I d) (known : j < length I.customers) where
+    lowered_value_small : unsigned_abs (unwrap_or (greatest lower_levels) (v_at d j)) ≤ MAX_VALUE
+    lowered_value_small =
+        let inside : j < length d.v = omega (arith, known, tame.fit.of_instance.customers) in
+        lowered_small (greatest lower_levels) (greatest_among (λ l. (l <ℤ v_at d j) × (pos 0 ≤ℤ l)) lower_levels lower_levels_are) (tame.fit.in_limits.values j (pos 0) inside)
+
+    -- the level to which it is lowered is within the limits
+    pub lower_level_small : (l : ℤ) → greatest lower_levels ≡ Some l → unsigned_abs l ≤ MAX_VALUE
+    lower_level_small l is = subst (λ o. unsigned_abs (unwrap_or o (v_at d j)) ≤ MAX_VALUE) is lowered_value_small
+
     pub lowered_is_tame : AreTame I (lowered I path d j)
     lowered_is_tame =
-        let inside : j < length d.v = omega (arith, known, tame.fit.of_instance.customers) in
         let value : ℤ = unwrap_or (greatest lower_levels) (v_at d j) in
-        let small : unsigned_abs value ≤ MAX_VALUE = lowered_small (greatest lower_levels) (greatest_among (λ l. (l <ℤ v_at d j) × (pos 0 ≤ℤ l)) lower_levels lower_levels_are) (tame.fit.in_limits.values j (pos 0) inside) in
+        let small : unsigned_abs value ≤ MAX_VALUE = lowered_value_small in
         let in_limits : AreInLimits (lowered I path d j) =
         record { scale = tame.fit.in_limits.scale; count_price = tame.fit.in_limits.count_price; values = All-set (λ v. unsigned_abs v ≤ MAX_VALUE) d.v j value small tame.fit.in_limits.values; multipliers = tame.fit.in_limits.multipliers } in
         let of_instance : AreDualsOf I (lowered I path d j) =

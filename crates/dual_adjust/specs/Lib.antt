@@ -1,2 +1,6 @@
 pub mod Slackness
+pub mod Paid
 pub mod Adjustment
+pub mod Present
+pub mod Adjusted
+pub mod Stored

@@ -1,0 +1,94 @@
+-- What trials, rounds and the whole adjustment come to.
+use Rattle.std.proofs.Common.{◌≡◌, ℕ, ◌≤◌, sym, ap, subst, ◌∙◌, arith, Option, Some, unwrap_or, ℤ, ◌≤ℤ◌, ◌<ℤ◌, None}
+use Rattle.std.proofs.lemmas.Int.{ints}
+use Rattle.location_terms.specs.Instance.{Instance}
+use Rattle.location_terms.specs.Box.{Path}
+use Rattle.location_terms.specs.Bound.{Duals, v_at, bound_of}
+use Rattle.location_terms.specs.Fit.{AreTame}
+use Rattle.dual_value.specs.Prepared.{Prepared}
+use Rattle.dual_value.specs.Slacks.{AreSlacks}
+use Rattle.dual_ascent.specs.Levels.{customer_places}
+use Rattle.dual_ascent.specs.Ascent.{with_v, IsAscended, IsAscendedApart, IsBlocked}
+use Rattle.dual_ascent.specs.Kept.{Keeps}
+use Rattle.dual_ascent.specs.Work.{IsWorkFor}
+use Rattle.dual_ascent.proofs.Again.{again}
+use Rattle.dual_ascent.proofs.Results.{all_known}
+use Rattle.dual_ascent.proofs.Rounds.{one_ascent}
+use Rattle.dual_ascent.proofs.Ceiling.{same_prices}
+use Rattle.dual_adjust.specs.Adjustment.{greatest, lowered, IsCandidate, Gains}
+use Rattle.dual_adjust.specs.Paid.{levels_below}
+use Rattle.dual_adjust.specs.Present.{Present, HasAscended, HaveSamePrices}
+use Rattle.dual_adjust.specs.Adjusted.{IsTried, AreTrials, IsAdjusted, IsGain}
+use Rattle.dual_adjust.proofs.Lowered.{no_gain}
+use Rattle.dual_adjust.specs.Stored.{AreAlike}
+use Rattle.dual_adjust.specs.declared.trials.Trials.TheInside.{Inside}
+
+module _ (I : Instance) (path : Path) where
+  -- what an ascent over all customers leaves
+  pub risen_from : (start : Duals) (p : Present) → AreTame I start → IsAscended I path start p.duals → Keeps I path start p.duals → IsBlocked I path p.duals → AreSlacks I path p.duals p.work.slacks → IsWorkFor I p.work → HasAscended I path p
+  risen_from start p tame asc keeps blocked slacks work =
+      record { tame = keeps.tame; ascended = again I path (customer_places I) (all_known I path) start tame.fit.of_instance.customers p.duals asc; blocked = blocked; slacks = slacks; work = work }
+
+  -- the duals of the trial, with the present ones' values and the customer's dual lowered
+  pub lowered_from : (d t a b : Duals) (j : ℕ) (l : ℤ) → HaveSamePrices d t → greatest (levels_below I path d j) ≡ Some l → a ≡ (let e : Duals = record t { v = d.v } in e) → b ≡ with_v a j l → b ≡ lowered I path d j
+  lowered_from d t a b j l same is copied set =
+      let values : a ≡ d = copied ∙ same_prices t d (sym same.scale) (sym same.count_price) (sym same.prices) in
+      let value : unwrap_or (greatest (levels_below I path d j)) (v_at d j) ≡ l = ap (λ (o : Option ℤ). unwrap_or o (v_at d j)) is in
+      set ∙ ap (λ (e : Duals). with_v e j l) values ∙ ap (with_v d j) (sym value)
+
+  -- what comes of it is the customer's candidate
+  pub candidate_from : (d b e : Duals) (j : ℕ) → b ≡ lowered I path d j → (risen : Duals) × IsAscendedApart I path j b risen × IsAscended I path risen e → IsCandidate I path d j e
+  candidate_from d b e j is found = (found.0, subst (λ (f : Duals). IsAscendedApart I path j f found.0) is found.1, found.2)
+
+  -- duals and arrays of one instance are stored alike
+  pub alike_from : (a : Inside) → HaveSamePrices a.present.duals a.trial.duals → AreTame I a.present.duals → AreTame I a.trial.duals → IsWorkFor I a.present.work → IsWorkFor I a.trial.work → AreAlike a
+  alike_from a same here there work trial_work =
+      record {
+        same_prices = same;
+        customers = there.fit.of_instance.customers ∙ sym here.fit.of_instance.customers;
+        slacks = trial_work.slacks ∙ sym work.slacks;
+        blockers = trial_work.blockers ∙ sym work.blockers;
+      }
+
+  pub tried_again : (p q r : Present) → IsTried I path p q → IsTried I path q r → IsTried I path p r
+  tried_again p q r one two =
+      record {
+        same_prices = record { scale = two.same_prices.scale ∙ one.same_prices.scale; count_price = two.same_prices.count_price ∙ one.same_prices.count_price; prices = two.same_prices.prices ∙ one.same_prices.prices };
+        risen = two.risen;
+      }
+
+  -- after the ascent of the start, and rounds that don't lower the bound
+  pub adjusted_from : (rounds : ℕ) (start a : Duals) (p : Present) → IsAscended I path start a → Keeps I path start a → HaveSamePrices a p.duals → HasAscended I path p → bound_of I path a ≤ℤ bound_of I path p.duals
+      → (1 ≤ rounds → Gains I path a → bound_of I path a <ℤ bound_of I path p.duals) → IsAdjusted I path rounds start p.duals
+  adjusted_from rounds start a p asc keeps prices risen no_lower gains =
+      let first = keeps.bound in
+      record {
+        same_prices = record { scale = prices.scale ∙ keeps.scale; count_price = prices.count_price ∙ keeps.count_price; prices = prices.prices ∙ keeps.prices };
+        tame = risen.tame;
+        ascended = risen.ascended;
+        blocked = risen.blocked;
+        bound = omega (arith, ints, first, no_lower);
+        ascent = λ b other. subst (λ (e : Duals). bound_of I path e ≤ℤ bound_of I path p.duals) (one_ascent I path (customer_places I) start a b asc other) no_lower;
+        gain = λ b other some gain. let same : a ≡ b = one_ascent I path (customer_places I) start a b asc other in
+            subst (λ (e : Duals). bound_of I path e <ℤ bound_of I path p.duals) same (gains some (subst (Gains I path) (sym same) gain));
+      }
+
+-- a search for the first step that gains, from duals that are their own ascent, in the prepared box
+module _ (I : Instance) (path : Path) (b : Prepared) (same_box : b ≡ (let box : Prepared = record { instance = I; path = path } in box)) (d s : Duals) (same_start : s ≡ d) (own : IsAscended I path d d) (old : Present) (asc : IsAscended b.instance b.path s old.duals) where
+  is_start : old.duals ≡ d
+  is_start =
+      let from_start : IsAscended b.instance b.path d old.duals = subst (λ (x : Duals). IsAscended b.instance b.path x old.duals) same_start asc in
+      one_ascent I path (customer_places I) d old.duals d (subst (λ (x : Prepared). IsAscended x.instance x.path d old.duals) same_box from_start) own
+
+  trials_from : (e : Duals) (o : Option ℕ) → AreTrials b.instance b.path old.duals e 0 o → AreTrials I path d e 0 o
+  trials_from e o trials = subst (λ (x : Duals). AreTrials I path x e 0 o) is_start (subst (λ (x : Prepared). AreTrials x.instance x.path old.duals e 0 o) same_box trials)
+
+  pub no_first_gain : (e : Duals) → AreTrials b.instance b.path old.duals e 0 None → Gains I path d → ⊥
+  no_first_gain e trials = no_gain I path d (λ j c. (trials_from e None trials).1 j (omega arith) c)
+
+  pub first_gain : (new : Present) (next : ℕ) → IsTried b.instance b.path old new → AreTrials b.instance b.path old.duals new.duals 0 (Some next) → IsGain I path d new.duals
+  first_gain new next tried trials =
+      let gained = (trials_from new.duals (Some next) trials).2 in
+      let risen : HasAscended I path new = subst (λ (x : Prepared). HasAscended x.instance x.path new) same_box tried.risen in
+      let same : HaveSamePrices d new.duals = subst (λ (x : Duals). HaveSamePrices x new.duals) is_start tried.same_prices in
+      record { gains = gained.gains; same_prices = same; tame = risen.tame; ascended = risen.ascended; blocked = risen.blocked; greater = gained.greater }

@@ -1,0 +1,354 @@
+ghost use Rattle.std.specs.Prelude.{◌≡◌, IsTrue};
+ghost use Rattle.std.specs.List.Sorted.{IsStrictlyIncreasing};
+ghost use Rattle.location_terms.specs.Fit.{AreTame, DualsFit};
+
+use super::*;
+use dual_value::{Duals, Path, bound, tame};
+use instance_store::{CustId, CustRow, Instance, LaneRow, NoMemory, SiteId, SiteRow};
+use lane_order::LaneOrder;
+use location_terms::Decision;
+use std::alloc::Global;
+use std::test::Fail;
+
+// Two sites that serve the first customer for nothing, and each one of the others.
+fn shared(alloc: Global) -> Result<Instance, NoMemory> {
+    let first = LaneRow::from_slice(alloc, &[Some(0), Some(0), Some(10_000_000)])?;
+    let second = LaneRow::from_slice(alloc, &[Some(0), Some(10_000_000), Some(0)])?;
+    let sites = vec![in alloc;
+        SiteRow {
+            id: SiteId::new(1),
+            fixed: 2_000_000,
+            cap: None,
+            lanes: first
+        },
+        SiteRow {
+            id: SiteId::new(2),
+            fixed: 2_000_000,
+            cap: None,
+            lanes: second
+        },
+    ]?;
+    let custs = vec![in alloc; customer(1, 0), customer(2, 0), customer(3, 0)]?;
+    Instance::from_parts(alloc, 0, 2, 3, 4, custs, sites)
+}
+
+// Two sites and three customers, none of which pays both where the ascent ends.
+fn plain(alloc: Global) -> Result<Instance, NoMemory> {
+    let near = LaneRow::from_slice(alloc, &[Some(1_000_000), Some(2_000_000), Some(9_000_000)])?;
+    let far = LaneRow::from_slice(alloc, &[Some(8_000_000), Some(7_000_000), Some(1_000_000)])?;
+    let sites = vec![in alloc;
+        SiteRow {
+            id: SiteId::new(1),
+            fixed: 10_000_000,
+            cap: None,
+            lanes: near
+        },
+        SiteRow {
+            id: SiteId::new(2),
+            fixed: 12_000_000,
+            cap: None,
+            lanes: far
+        },
+    ]?;
+    let custs = vec![in alloc; customer(1, 0), customer(2, 0), customer(3, 0)]?;
+    Instance::from_parts(alloc, 0, 2, 3, 4, custs, sites)
+}
+
+// Four sites, three of which have a capacity, and six customers.
+fn priced(alloc: Global) -> Result<Instance, NoMemory> {
+    let first = LaneRow::from_slice(alloc, &[Some(6), Some(1), Some(9), None, Some(4), Some(4)])?;
+    let second = LaneRow::from_slice(
+        alloc,
+        &[Some(2), Some(2), Some(1), Some(8), Some(5), Some(8)],
+    )?;
+    let third = LaneRow::from_slice(
+        alloc,
+        &[Some(4), Some(8), Some(9), Some(4), Some(3), Some(7)],
+    )?;
+    let fourth = LaneRow::from_slice(alloc, &[Some(2), Some(2), Some(9), Some(9), Some(0), None])?;
+    let sites = vec![in alloc;
+        SiteRow {
+            id: SiteId::new(1),
+            fixed: 8,
+            cap: Some(11),
+            lanes: first
+        },
+        SiteRow {
+            id: SiteId::new(2),
+            fixed: 6,
+            cap: None,
+            lanes: second
+        },
+        SiteRow {
+            id: SiteId::new(3),
+            fixed: 2,
+            cap: Some(13),
+            lanes: third
+        },
+        SiteRow {
+            id: SiteId::new(4),
+            fixed: 4,
+            cap: Some(11),
+            lanes: fourth
+        },
+    ]?;
+    let custs = vec![in alloc;
+        customer(1, 1),
+        customer(2, 2),
+        customer(3, 4),
+        customer(4, 3),
+        customer(5, 2),
+        customer(6, 1),
+    ]?;
+    Instance::from_parts(alloc, 0, 4, 5, 7, custs, sites)
+}
+
+fn customer(id: u32, demand: u64) -> CustRow
+    ensures { result ≡ record { id = id; demand = demand } }
+{
+    CustRow {
+        id: CustId::new(id),
+        demand,
+    }
+}
+
+fn path(alloc: Global, steps: &[Decision]) -> Result<Path, NoMemory> {
+    let mut path = Path::root(alloc);
+    for step in steps {
+        path.push(*step)?;
+    }
+    Ok(path)
+}
+
+// Duals of 0 at this scale and these prices of capacities.
+fn zeros(alloc: Global, inst: &Instance, q: u32, prices: &[u64]) -> Result<Duals, NoMemory> {
+    let values = vec![in alloc; 0; inst.custs()]?;
+    Ok(Duals::from_lists(q, 0, values, Vec::from_slice(alloc, prices)?))
+}
+
+// Whether an adjustment may begin with these duals.
+fn are_tame(inst: &Instance, duals: &Duals) -> bool
+    ensures { IsTrue result → AreTame inst.now duals.now }
+{
+    duals.customers() == inst.custs() && duals.sites() == inst.sites() && tame(duals, inst)
+}
+
+// Whether so many rounds lead from duals of 0 to these ones and this bound.
+fn leads_to(
+    alloc: Global,
+    inst: &Instance,
+    steps: &[Decision],
+    q: u32,
+    prices: &[u64],
+    rounds: u32,
+    values: &[i128],
+    want: i128,
+) -> Result<bool, NoMemory> {
+    let path = path(alloc, steps)?;
+    let order = LaneOrder::of(alloc, inst)?;
+    let start = zeros(alloc, inst, q, prices)?;
+    if !are_tame(inst, &start) {
+        return Ok(false);
+    }
+    let duals = adjust(alloc, inst, &order, &path, start, rounds)?;
+    Ok(duals.values() == values && bound(inst, &path, &duals) == want)
+}
+
+// Whether then these sites are tight, these customers pay more than one of them, and another step gains
+// or none does.
+fn leaves(
+    alloc: Global,
+    inst: &Instance,
+    steps: &[Decision],
+    q: u32,
+    prices: &[u64],
+    rounds: u32,
+    tight: &[SiteId],
+    custs: &[CustId],
+    gains: bool,
+) -> Result<bool, NoMemory> {
+    let path = path(alloc, steps)?;
+    let order = LaneOrder::of(alloc, inst)?;
+    let start = zeros(alloc, inst, q, prices)?;
+    if !are_tame(inst, &start) {
+        return Ok(false);
+    }
+    let duals = adjust(alloc, inst, &order, &path, start, rounds)?;
+    let more = gain(alloc, inst, &order, &path, &duals)?.is_some();
+    Ok(more == gains && has_tight(alloc, inst, &path, &duals, tight, custs)?)
+}
+
+// Whether just these sites are tight, and just these customers pay more than one of them.
+fn has_tight(
+    alloc: Global,
+    inst: &Instance,
+    path: &Path,
+    duals: &Duals,
+    tight: &[SiteId],
+    custs: &[CustId],
+) -> Result<bool, NoMemory>
+    requires { DualsFit inst.now duals.now }
+{
+    let sites = tight_sites(alloc, inst, path, duals)?;
+    Ok(sites.as_slice() == tight && violates(alloc, inst, path, duals, &sites, custs)?)
+}
+
+// Whether just these customers pay more than one of these sites.
+fn violates(
+    alloc: Global,
+    inst: &Instance,
+    path: &Path,
+    duals: &Duals,
+    sites: &[SiteId],
+    custs: &[CustId],
+) -> Result<bool, NoMemory>
+    requires fit { DualsFit inst.now duals.now }
+    requires rising { IsStrictlyIncreasing sites.now }
+{
+    Ok(violations(alloc, inst, path, duals, sites)?.as_slice() == custs)
+}
+
+// At the root of two sites, both of which the first customer pays where the ascent ends.
+fn adjusts_shared(alloc: Global, inst: &Instance) -> Result<bool, NoMemory> {
+    let both = [SiteId::new(1), SiteId::new(2)];
+    let values = [0, 2_000_000, 2_000_000];
+    Ok(
+        leads_to(
+            alloc,
+            inst,
+            &[],
+            1,
+            &[0, 0],
+            0,
+            &[2_000_000, 0, 0],
+            2_000_000,
+        )? && leads_to(alloc, inst, &[], 1, &[0, 0], 10, &values, 4_000_000)?
+            && leaves(
+                alloc,
+                inst,
+                &[],
+                1,
+                &[0, 0],
+                0,
+                &both,
+                &[CustId::new(1)],
+                true,
+            )?
+            && leaves(alloc, inst, &[], 1, &[0, 0], 10, &both, &[], false)?,
+    )
+}
+
+// At the root, where no customer pays both sites when the ascent ends.
+fn leaves_plain(alloc: Global, inst: &Instance) -> Result<bool, NoMemory> {
+    let values = [8_000_000, 5_000_000, 9_000_000];
+    Ok(
+        leads_to(alloc, inst, &[], 1, &[0, 0], 10, &values, 22_000_000)?
+            && leaves(
+                alloc,
+                inst,
+                &[],
+                1,
+                &[0, 0],
+                0,
+                &[SiteId::new(1)],
+                &[],
+                false,
+            )?,
+    )
+}
+
+// At the root the bounds of the rounds are 35, 43 and 46, and in the first round two steps gain.
+fn adjusts_priced(alloc: Global, inst: &Instance) -> Result<bool, NoMemory> {
+    let prices = [1, 0, 1, 0];
+    let sites = [
+        SiteId::new(1),
+        SiteId::new(2),
+        SiteId::new(3),
+        SiteId::new(4),
+    ];
+    let custs = [CustId::new(1), CustId::new(2)];
+    Ok(
+        leads_to(alloc, inst, &[], 2, &prices, 0, &[9, 7, 6, 11, 0, 11], 35)?
+            && leads_to(alloc, inst, &[], 2, &prices, 1, &[7, 4, 11, 11, 5, 14], 43)?
+            && leads_to(alloc, inst, &[], 2, &prices, 10, &[4, 4, 14, 11, 8, 14], 46)?
+            && leaves(alloc, inst, &[], 2, &prices, 0, &sites, &custs, true)?,
+    )
+}
+
+fn adjusts_boxes(alloc: Global, inst: &Instance) -> Result<bool, NoMemory> {
+    let prices = [1, 0, 1, 0];
+    let closed = [Decision::Closed(SiteId::new(2))];
+    let opened = [Decision::Opened(SiteId::new(1))];
+    let others = [SiteId::new(1), SiteId::new(3), SiteId::new(4)];
+    Ok(
+        leads_to(
+            alloc,
+            inst,
+            &closed,
+            2,
+            &prices,
+            2,
+            &[9, 4, 21, 11, 0, 14],
+            50,
+        )? && leaves(
+            alloc,
+            inst,
+            &closed,
+            2,
+            &prices,
+            0,
+            &others,
+            &[CustId::new(2)],
+            true,
+        )? && leads_to(
+            alloc,
+            inst,
+            &opened,
+            2,
+            &prices,
+            1,
+            &[4, 4, 14, 11, 8, 9],
+            46,
+        )?,
+    )
+}
+
+// Sites that the instance hasn't are passed over.
+fn passes_over_unknown(alloc: Global, inst: &Instance) -> Result<bool, NoMemory> {
+    let root = Path::root(alloc);
+    let values = Vec::from_slice(alloc, &[1, 11_000_000, 10_000_000])?;
+    let duals = Duals::from_lists(1, 0, values, Vec::from_slice(alloc, &[0, 0])?);
+    if !are_tame(inst, &duals) {
+        return Ok(false);
+    }
+    let sites = [SiteId::new(1), SiteId::new(2), SiteId::new(7)];
+    let others = [SiteId::new(2), SiteId::new(7)];
+    let custs = [CustId::new(1), CustId::new(2)];
+    Ok(
+        violates(alloc, inst, &root, &duals, &sites, &custs)?
+            && violates(alloc, inst, &root, &duals, &others, &[])?,
+    )
+}
+
+#[test]
+fn adjusts(rt: HostRuntime) -> Result<(), Fail> {
+    let inst = shared(rt.alloc())?;
+    assert!(rt; adjusts_shared(rt.alloc(), &inst)?);
+    assert!(rt; passes_over_unknown(rt.alloc(), &inst)?);
+    Ok(())
+}
+
+#[test]
+fn leaves_what_gains_nothing(rt: HostRuntime) -> Result<(), Fail> {
+    let inst = plain(rt.alloc())?;
+    assert!(rt; leaves_plain(rt.alloc(), &inst)?);
+    Ok(())
+}
+
+#[test]
+fn adjusts_at_prices_and_in_boxes(rt: HostRuntime) -> Result<(), Fail> {
+    let inst = priced(rt.alloc())?;
+    assert!(rt; adjusts_priced(rt.alloc(), &inst)?);
+    assert!(rt; adjusts_boxes(rt.alloc(), &inst)?);
+    Ok(())
+}
