@@ -1,8 +1,10 @@
 -- That replies have their causes.
-use Rattle.std.proofs.Common.{◌≡◌, ◌⊎◌, Ok, Err, ℕ, ◌+◌, ◌<◌, ◌≤◌, List, length, Option, None, Some, sym, refl, ap, subst, inl, inr, arith}
-use Rattle.std.specs.Prelude.{IsSomeAnd, replicate}
+use Rattle.std.proofs.Common.{◌≡◌, ◌⊎◌, Ok, Err, ℕ, ◌+◌, ◌*◌, ◌<◌, ◌≤◌, List, [], length, Option, None, Some, sym, refl, ap, subst, inl, inr, arith}
+use Rattle.std.specs.Prelude.{IsSomeAnd, replicate, pos, ◌≤ℤ◌}
 use Rattle.std.specs.FinMap.{get}
+use Rattle.std.proofs.lemmas.Int.{ints}
 use Rattle.std.proofs.lemmas.List.{length-replicate}
+use Rattle.std.proofs.lemmas.List.Elements.{All-nil}
 use Rattle.shelf_port.specs.Files.{Files, HasFile, MayHold, Rose}
 use Rattle.shelf_port.specs.Ports.{ShelfState}
 use Rattle.location_terms.specs.Instance.{Instance, IsValid}
@@ -10,6 +12,17 @@ use Rattle.location_terms.specs.Optimal.{ClaimHolds}
 use Rattle.location_terms.specs.Certificate.{Certificate, IsAccepted}
 use Rattle.location_terms.specs.declared.claim.Claim.{Claim}
 use Rattle.location_terms.proofs.Claims.{claim_holds}
+use Rattle.location_terms.specs.Box.{Path}
+use Rattle.location_terms.specs.Plan.{Plan, IsFeasible, cost_of}
+use Rattle.location_terms.specs.Box.{IsKept}
+use Rattle.location_terms.specs.Bound.{Duals, bound_of}
+use Rattle.location_terms.proofs.Duality.{bound_within_cost}
+use Rattle.dual_value.specs.Zeros.{zeros}
+use Rattle.dual_ascent.specs.Ascent.{IsAscended, IsBlocked}
+use Rattle.dual_ascent.specs.Kept.{Keeps}
+use Rattle.dual_ascent.proofs.Plain.{plain_keeps, plain_values, plain_slacks, plain_bound}
+use Rattle.dual_ascent.proofs.Small.{value_small, slack_small, bound_small}
+use Rattle.report.specs.DualsText.{ArePrintable}
 use Rattle.ufllib_read.proofs.Meant.{valid-meant}
 use Rattle.certificate_lines.specs.Text.{certificate_text}
 use Rattle.certificate_lines.specs.Follow.{HasSmallCosts}
@@ -24,15 +37,10 @@ use Rattle.dualoc_cli.specs.declared.words.FileForm.{FileForm}
 use Rattle.dualoc_cli.specs.declared.words.FileForm.TheVariants.{Ufl}
 use Rattle.dualoc_cli.specs.declared.limits.TheConstants.{MAX_INSTANCE_BYTES}
 use Rattle.dualoc_cli.specs.declared.reply.Reply.{Reply}
-use Rattle.dualoc_cli.specs.declared.reply.Reply.TheVariants.{Optimum, CertificateUnread, LongCertificate, Misspelt, Judged}
-use Rattle.dualoc_cli.specs.Command.{InstanceFile, Job, OnFile, Check, command_of, meaning_of}
-use Rattle.dualoc_cli.specs.Due.{Run, IsTooLong, HasTask, FailsToRead, IsAnswered, IsConfirmed, IsCause}
+use Rattle.dualoc_cli.specs.declared.reply.Reply.TheVariants.{Optimum, Ascent, CertificateUnread, LongCertificate, Misspelt, Judged}
+use Rattle.dualoc_cli.specs.Command.{InstanceFile, Job, OnFile, ShowDuals, Check, command_of, meaning_of}
+use Rattle.dualoc_cli.specs.Due.{Run, IsTooLong, HasTask, FailsToRead, IsRaised, IsAnswered, IsConfirmed, IsCause}
 use Rattle.dualoc_cli.specs.Step.{Covers, IsPrintable}
-
--- the text of a reply that has its cause can be made
-pub printable : (r : Run) (reply : Reply) → IsCause r reply → IsPrintable reply
-printable r (Optimum I P cost) cause = cause.optimal.feasible
-printable r reply cause = tt
 
 -- what a read of the whole file told, as what the file may hold
 read_bytes : (found : Option (List ℕ)) (bytes : List ℕ) → IsSomeAnd found (λ file. bytes ≡ file) → found ≡ Some bytes
@@ -82,6 +90,45 @@ valid_in Ufl given bytes I means = valid-meant bytes I means
 
 pub task_valid : (r : Run) (job : Job) (I : Instance) → HasTask r job I → IsValid I
 task_valid r job I task = valid_in task.file.form task.file.given task.bytes I task.means
+
+-- the duals of an ascent from zeros can be printed
+ascent_printable : (I : Instance) (d : Duals) → IsValid I → IsAscended I [] (zeros I 1) d → ArePrintable I d
+ascent_printable I d valid asc =
+    let keeps : Keeps I [] (zeros I 1) d = plain_keeps I [] 1 (omega arith) (omega arith) valid d asc in
+    record {
+      fit = keeps.tame.fit;
+      bound = (plain_bound I [] 1 (omega arith) (omega arith) valid d asc, bound_small I [] valid d asc);
+      values = λ j b. let high = value_small I [] valid d asc j b in (plain_values I [] 1 (omega arith) (omega arith) valid d asc j b, omega (arith, ints, high));
+      slacks = λ i b. let high = slack_small I [] valid d asc i b in (plain_slacks I [] 1 (omega arith) (omega arith) valid d asc i b, omega (arith, ints, high));
+    }
+
+-- the text of a reply that has its cause can be made
+pub printable : (r : Run) (reply : Reply) → IsCause r reply → IsPrintable reply
+printable r (Optimum I P cost) cause = cause.optimal.feasible
+printable r (Ascent I d) cause = ascent_printable I d (task_valid r ShowDuals I cause.task) cause.ascended
+printable r reply cause = tt
+
+-- no plan costs less than the bound of an ascent from zeros
+ascent_bounds : (I : Instance) (d : Duals) → IsValid I → IsAscended I [] (zeros I 1) d → (P : Plan) → IsFeasible I P → bound_of I [] d ≤ℤ pos (cost_of I P)
+ascent_bounds I d valid asc P feasible =
+    let keeps : Keeps I [] (zeros I 1) d = plain_keeps I [] 1 (omega arith) (omega arith) valid d asc in
+    let unscaled : d.q * cost_of I P ≡ 1 * cost_of I P = ap (λ q. q * cost_of I P) keeps.scale in
+    omega (arith, ints, unscaled, bound_within_cost I [] d P valid feasible keeps.tame.fit.of_instance (All-nil (IsKept P)))
+
+-- the duals of an ascent from zeros, where nothing is decided, are a cause to print them
+pub raised : (r : Run) (I : Instance) (path : Path) (start d : Duals) → path ≡ [] → start ≡ zeros I 1 → HasTask r ShowDuals I → IsAscended I path start d → IsBlocked I path d → IsRaised r I d
+raised r I path start d at_root from_zeros task rises stops =
+    let valid : IsValid I = task_valid r ShowDuals I task in
+    let asc : IsAscended I [] (zeros I 1) d = subst (λ s. IsAscended I [] s d) from_zeros (subst (λ p. IsAscended I p start d) at_root rises) in
+    record {
+      task = task;
+      ascended = asc;
+      blocked = subst (λ p. IsBlocked I p d) at_root stops;
+      values = plain_values I [] 1 (omega arith) (omega arith) valid d asc;
+      slacks = plain_slacks I [] 1 (omega arith) (omega arith) valid d asc;
+      bound = plain_bound I [] 1 (omega arith) (omega arith) valid d asc;
+      low_end = ascent_bounds I d valid asc;
+    }
 
 -- what the checker answered in a part of a run, as the cause of a reply
 module _ (r : Run) (old new : ShelfState) (name : List ℕ) (I : Instance) (task : HasTask r (Check name) I) (part : Covers r old new) where

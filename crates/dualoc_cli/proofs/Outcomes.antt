@@ -25,8 +25,8 @@ use Rattle.dualoc_cli.specs.declared.limits.TheConstants.{MAX_INSTANCE_BYTES}
 use Rattle.dualoc_cli.specs.declared.status.Status.{Status}
 use Rattle.dualoc_cli.specs.declared.status.Status.TheVariants.{Done, Infeasible, Bracket, CheckNo, Usage, BadInput, ReadFault, WriteFault, TooLarge, NoMemory}
 use Rattle.dualoc_cli.specs.declared.reply.Reply.{Reply}
-use Rattle.dualoc_cli.specs.declared.reply.Reply.TheVariants.{NoCommand, InstanceUnread, LongInstance, Faulty, ManySites, Optimum, CertificateUnread, LongCertificate, Misspelt, Judged}
-use Rattle.dualoc_cli.specs.Command.{Command, OnFile, InstanceFile, Job, SolveShort, Check, command_of, meaning_in}
+use Rattle.dualoc_cli.specs.declared.reply.Reply.TheVariants.{NoCommand, InstanceUnread, LongInstance, Faulty, ManySites, Optimum, Ascent, CertificateUnread, LongCertificate, Misspelt, Judged}
+use Rattle.dualoc_cli.specs.Command.{Command, OnFile, InstanceFile, Job, SolveShort, ShowDuals, Check, command_of, meaning_in}
 use Rattle.dualoc_cli.specs.Status.{when_cut}
 use Rattle.dualoc_cli.specs.Reply.{status_of, text_of}
 use Rattle.dualoc_cli.specs.Due.{Run, AsksFor, HasTask, InstanceFails, CertificateFails, HasManySites, HasFault, IsAnswered, IsCause, IsPrinted, Ends, Keeps, Leaves, ChangesNothing, IsTold, IsHindered, MemoryRanOut, InstanceFailed, CertificateFailed, OutputFailed, EndsAs, DeservesYes, IsChecked, IsComplete, Runs}
@@ -34,7 +34,7 @@ use Rattle.dualoc_cli.specs.Due.{Run, AsksFor, HasTask, InstanceFails, Certifica
 pub leaves : (asked : Option Command) (before after : Ports) → ChangesNothing before after → Leaves asked before after
 leaves None before after same = same
 leaves (Some (OnFile file job)) before after same =
-    elim job as (λ job. Keeps job before after) [ SolveShort ↦ same | Check certificate ↦ same ]
+    elim job as (λ job. Keeps job before after) [ SolveShort ↦ same | ShowDuals ↦ same | Check certificate ↦ same ]
 
 -- a status after a write that failed is no result
 not_done : (due : Status) → Done ≡ when_cut due → ⊥
@@ -79,6 +79,7 @@ module _ (r : Run) where
   words_are (Faulty fault) cause = inr (OnFile cause.file cause.job, cause.asked.words_are)
   words_are ManySites cause = task_words SolveShort cause.instance cause.task
   words_are (Optimum I P cost) cause = task_words SolveShort I cause.task
+  words_are (Ascent I d) cause = task_words ShowDuals I cause.task
   words_are CertificateUnread cause = task_words (Check cause.name) cause.instance cause.task
   words_are LongCertificate cause = task_words (Check cause.name) cause.instance cause.task
   words_are (Misspelt kind line) cause = task_words (Check cause.name) cause.instance cause.task
@@ -88,6 +89,7 @@ module _ (r : Run) where
   -- the status that is due for an instance
   abbrev Worked : Job → Instance → Status → Type 0
   Worked SolveShort I status = status ≡ (if nat_lt MAX_WALK_SITES (length I.sites) then TooLarge else Done)
+  Worked ShowDuals I status = status ≡ Done
   Worked (Check name) I status =
       (bytes : List ℕ) × MayHold r.before.shelf.files name bytes × ((answer : Answer) × IsAnswer MAX_CERTIFICATE_BYTES I bytes answer × (status ≡ status_in answer))
 
@@ -132,6 +134,9 @@ module _ (r : Run) where
       task_is_due SolveShort I Done task
       (sym (cond-false (nat_lt MAX_WALK_SITES (length I.sites)) TooLarge Done (not_above (length I.sites) MAX_WALK_SITES few)))
 
+  duals_are_due : (I : Instance) → HasTask r ShowDuals I → IsDue Done
+  duals_are_due I task = task_is_due ShowDuals I Done task refl
+
   fault_is_due : (fault : FileFault) → HasFault r fault → IsDue BadInput
   fault_is_due fault a =
       inr (a.file, a.job, a.bytes, a.asked, inr (a.within, subst (λ m. Meant a.job m BadInput) (sym a.means) refl))
@@ -153,6 +158,7 @@ module _ (r : Run) where
   cause_is_due (Faulty fault) cause = inl (fault_is_due fault cause)
   cause_is_due ManySites cause = inl (many_is_due cause)
   cause_is_due (Optimum I P cost) cause = inl (few_is_due I cause.task cause.few)
+  cause_is_due (Ascent I d) cause = inl (duals_are_due I cause.task)
   cause_is_due CertificateUnread cause = inr (inr cause, refl)
   cause_is_due LongCertificate cause = inl (answer_is_due (Err TooLong) cause)
   cause_is_due (Misspelt kind line) cause = inl (answer_is_due (Err (Text kind line)) cause)
@@ -170,6 +176,7 @@ module _ (r : Run) where
 
     worked_once : (job : Job) (I : Instance) (s t : Status) → Worked job I s → Worked job I t → s ≡ t
     worked_once SolveShort I s t p q = p ∙ sym q
+    worked_once ShowDuals I s t p q = p ∙ sym q
     worked_once (Check name) I s t p q =
         let same : q.0 ≡ p.0 = same_bytes name q.0 p.0 q.1 p.1 in
         let once : p.2.0 ≡ q.2.0 = one_answer MAX_CERTIFICATE_BYTES I p.0 p.2.0 q.2.0 p.2.1 (subst (λ bytes. IsAnswer MAX_CERTIFICATE_BYTES I bytes q.2.0) same q.2.1) in
@@ -263,6 +270,7 @@ module _ (r : Run) where
 
     complete : (status : Status) → Ends r status → (job : Job) (I : Instance) → HasTask r job I → IsComplete r job I status
     complete status ends SolveShort I task = λ few. ends_as_due Done status (few_is_due I task few) ends
+    complete status ends ShowDuals I task = ends_as_due Done status (duals_are_due I task) ends
     complete status ends (Check name) I task = checked status ends name I task
 
   -- Where the words are no command, that alone is answered.

@@ -26,9 +26,11 @@ pub record InstanceFile : Type 0 where
 abbrev pub meaning_in : InstanceFile → List ℕ → Result Instance FileFault
 meaning_in file bytes = meaning_of file.form file.given bytes
 
--- what is to be done with the instance: to solve it by a walk over all sets of sites, or to check the certificate in a file against it
+-- what is to be done with the instance: to solve it by a walk over all sets of sites, to show the duals to which an ascent raises them,
+-- or to check the certificate in a file against it
 pub data Job : Type 0 where
   SolveShort : Job
+  ShowDuals : Job
   Check : (certificate : List ℕ) → Job
 
 -- what words ask for
@@ -49,6 +51,11 @@ abbrev pub solve_of : List (List ℕ) → Option Command
 solve_of (form ∷ file ∷ []) = if bytes_eq form (codes "ufl") && are_names (file ∷ []) then Some (plain_command SolveShort file Ufl) else None
 solve_of _ = None
 
+-- the words behind `duals`
+abbrev pub duals_of : List (List ℕ) → Option Command
+duals_of (form ∷ file ∷ []) = if are_names (file ∷ []) then option_map (plain_command ShowDuals file) (form_of form) else None
+duals_of _ = None
+
 -- the words behind `check`
 abbrev pub check_of : List (List ℕ) → Option Command
 check_of (form ∷ file ∷ certificate ∷ []) =
@@ -59,4 +66,4 @@ check_of _ = None
 abbrev pub command_of : List (List ℕ) → Option Command
 command_of [] = None
 command_of (verb ∷ words) =
-    if bytes_eq verb (codes "solve") then solve_of words else (if bytes_eq verb (codes "check") then check_of words else None)
+    if bytes_eq verb (codes "solve") then solve_of words else (if bytes_eq verb (codes "duals") then duals_of words else (if bytes_eq verb (codes "check") then check_of words else None))

@@ -1,17 +1,20 @@
 -- The contract of `run` is `Runs`, at the end of this page: each reply has its cause, the run ends with a reply, or for want of
 -- memory, and the output gained its text. What a file holds is said as far as the shelf tells it: of a shelf that tells nothing,
 -- as the host's, only that there are such bytes. A count that rose is one that is greater or stands at the last value of its counter.
-use Rattle.std.specs.Prelude.{◌≡◌, ◌≢◌, ◌⊎◌, ℕ, ◌<◌, ◌≤◌, List, length, take, Option, None, Some, Ok, Err, codes}
+use Rattle.std.specs.Prelude.{◌≡◌, ◌≢◌, ◌⊎◌, ℕ, ◌<◌, ◌≤◌, List, [], length, take, Option, None, Some, Ok, Err, codes, pos, ◌≤ℤ◌}
 use Rattle.shelf_port.specs.Files.{Files, MayHold, Rose}
 use Rattle.shelf_port.specs.Streams.{with_back, RefusedLast}
 use Rattle.shelf_port.specs.Ports.{Ports, SinkState}
 use Rattle.location_terms.specs.Instance.{Instance}
-use Rattle.location_terms.specs.Plan.{Plan, cost_of}
+use Rattle.location_terms.specs.Plan.{Plan, IsFeasible, cost_of}
 use Rattle.location_terms.specs.Optimal.{IsOptimal, ClaimHolds}
+use Rattle.location_terms.specs.Bound.{Duals, v_at, slack_of, bound_of}
 use Rattle.location_terms.specs.Certificate.{Certificate, IsAccepted}
 use Rattle.location_terms.specs.declared.claim.Claim.{Claim}
 use Rattle.fixed_cost.specs.declared.fault.FileFault.{FileFault}
 use Rattle.set_walk.specs.declared.TheConstants.{MAX_WALK_SITES}
+use Rattle.dual_value.specs.Zeros.{zeros}
+use Rattle.dual_ascent.specs.Ascent.{IsAscended, IsBlocked}
 use Rattle.certificate_lines.specs.Text.{certificate_text}
 use Rattle.certificate_lines.specs.Follow.{HasSmallCosts}
 use Rattle.certificate_lines.specs.declared.limits.TheConstants.{MAX_CERTIFICATE_BYTES}
@@ -22,8 +25,8 @@ use Rattle.dualoc_cli.specs.declared.limits.TheConstants.{MAX_INSTANCE_BYTES}
 use Rattle.dualoc_cli.specs.declared.status.Status.{Status}
 use Rattle.dualoc_cli.specs.declared.status.Status.TheVariants.{Done, CheckNo, Usage, ReadFault, NoMemory}
 use Rattle.dualoc_cli.specs.declared.reply.Reply.{Reply}
-use Rattle.dualoc_cli.specs.declared.reply.Reply.TheVariants.{NoCommand, InstanceUnread, LongInstance, Faulty, ManySites, Optimum, CertificateUnread, LongCertificate, Misspelt, Judged}
-use Rattle.dualoc_cli.specs.Command.{Command, OnFile, InstanceFile, Job, SolveShort, Check, command_of, meaning_in}
+use Rattle.dualoc_cli.specs.declared.reply.Reply.TheVariants.{NoCommand, InstanceUnread, LongInstance, Faulty, ManySites, Optimum, Ascent, CertificateUnread, LongCertificate, Misspelt, Judged}
+use Rattle.dualoc_cli.specs.Command.{Command, OnFile, InstanceFile, Job, SolveShort, ShowDuals, Check, command_of, meaning_in}
 use Rattle.dualoc_cli.specs.Status.{when_cut}
 use Rattle.dualoc_cli.specs.Reply.{status_of, text_of}
 
@@ -92,6 +95,18 @@ pub record IsSolved (r : Run) (I : Instance) (P : Plan) (cost : ℕ) : Type 0 wh
   pub optimal : IsOptimal I P
   pub costs : cost ≡ cost_of I P
 
+-- The duals are those to which the ascent raises zeros, at scale 1 and where nothing is decided yet, of the instance whose duals are asked for.
+-- There is just one such ascent (the law `ascents` of dual_ascent), so this says what each number of their text is. What follows is said beside it:
+-- raising one customer's dual alone gains nothing, no number is below 0, and no feasible plan costs less than the bound.
+pub record IsRaised (r : Run) (I : Instance) (d : Duals) : Type 0 where
+  pub task : HasTask r ShowDuals I
+  pub ascended : IsAscended I [] (zeros I 1) d
+  pub blocked : IsBlocked I [] d
+  pub values : (j : ℕ) → j < length I.customers → pos 0 ≤ℤ v_at d j
+  pub slacks : (i : ℕ) → i < length I.sites → pos 0 ≤ℤ slack_of I [] d i
+  pub bound : pos 0 ≤ℤ bound_of I [] d
+  pub low_end : (P : Plan) → IsFeasible I P → bound_of I [] d ≤ℤ pos (cost_of I P)
+
 -- the instance was read, and then a read of the certificate's file failed
 pub record CertificateFails (r : Run) : Type 0 where
   pub instance : Instance
@@ -133,6 +148,7 @@ IsCause r LongInstance = IsTooLong r
 IsCause r (Faulty fault) = HasFault r fault
 IsCause r ManySites = HasManySites r
 IsCause r (Optimum I P cost) = IsSolved r I P cost
+IsCause r (Ascent I d) = IsRaised r I d
 IsCause r CertificateUnread = CertificateFails r
 IsCause r LongCertificate = IsAnswered r (Err TooLong)
 IsCause r (Misspelt kind line) = IsAnswered r (Err (Text kind line))
@@ -178,6 +194,7 @@ pub record ChangesNothing (before after : Ports) : Type 0 where
 -- which files a job may change, and whether it reads the input
 abbrev pub Keeps : Job → Ports → Ports → Type 0
 Keeps SolveShort before after = ChangesNothing before after
+Keeps ShowDuals before after = ChangesNothing before after
 Keeps (Check certificate) before after = ChangesNothing before after
 
 abbrev pub Leaves : Option Command → Ports → Ports → Type 0
@@ -208,6 +225,7 @@ pub record IsChecked (r : Run) (name : List ℕ) (I : Instance) (status : Status
 -- what is due for a job on an instance, where the files are told
 abbrev pub IsComplete : Run → Job → Instance → Status → Type 0
 IsComplete r SolveShort I status = length I.sites ≤ MAX_WALK_SITES → EndsAs r Done status
+IsComplete r ShowDuals I status = EndsAs r Done status
 IsComplete r (Check name) I status = IsChecked r name I status
 
 -- What a run does.
@@ -216,11 +234,11 @@ pub record Runs (r : Run) (status : Status) : Type 0 where
   pub ends : Ends r status
   -- nothing else is changed but what the command may change
   pub leaves : Leaves (command_of r.words) r.before r.after
-  -- So what is printed with the status Done holds: it is the text of an optimal plan, or the yes to a certificate whose claim holds, all of it.
+  -- So what is printed with the status Done holds: it is the text of an optimal plan, that of raised duals, or the yes to a certificate whose claim holds, all of it.
   pub done : status ≡ Done → (reply : Reply) × IsCause r reply × (status_of reply ≡ Done) × (r.after.output.written ≡ with_back r.before.output.written (text_of reply))
   -- Words that are no command are answered so.
   pub usage : command_of r.words ≡ None → (status ≡ Usage) ⊎ (status ≡ NoMemory)
   -- Where the files are told, a reply whose cause is there gives the status, unless the run is hindered; a count that rose alone is no reason for a read fault.
   pub exact : IsTold r → (reply : Reply) → IsCause r reply → status_of reply ≢ ReadFault → EndsAs r (status_of reply) status
-  -- So an instance of few sites is solved, and a certificate has its yes or its no.
+  -- So an instance of few sites is solved, any instance has its duals, and a certificate has its yes or its no.
   pub complete : IsTold r → (job : Job) (I : Instance) → HasTask r job I → IsComplete r job I status

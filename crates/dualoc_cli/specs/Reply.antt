@@ -6,6 +6,7 @@ use Rattle.fixed_cost.specs.Print.{micro_text}
 use Rattle.number_words.specs.Number.{number_text}
 use Rattle.plan_meaning.specs.PlanFault.{fault_name}
 use Rattle.report.specs.PlanText.{claim_line, plan_text_of}
+use Rattle.report.specs.DualsText.{duals_text_of}
 use Rattle.certificate_lines.specs.Kind.{kind_name}
 use Rattle.certificate_check.specs.declared.verdict.Why.{Why}
 use Rattle.certificate_check.specs.declared.verdict.Why.TheVariants.{PlanRefused, CostDiffers, LeafOpen}
@@ -13,7 +14,7 @@ use Rattle.certificate_check.specs.declared.verdict.Verdict.TheVariants.{Yes, No
 use Rattle.dualoc_cli.specs.declared.status.Status.{Status}
 use Rattle.dualoc_cli.specs.declared.status.Status.TheVariants.{Done, CheckNo, Usage, BadInput, ReadFault, TooLarge}
 use Rattle.dualoc_cli.specs.declared.reply.Reply.{Reply}
-use Rattle.dualoc_cli.specs.declared.reply.Reply.TheVariants.{NoCommand, InstanceUnread, LongInstance, Faulty, ManySites, Optimum, CertificateUnread, LongCertificate, Misspelt, Judged}
+use Rattle.dualoc_cli.specs.declared.reply.Reply.TheVariants.{NoCommand, InstanceUnread, LongInstance, Faulty, ManySites, Optimum, Ascent, CertificateUnread, LongCertificate, Misspelt, Judged}
 
 abbrev pub status_of : Reply → Status
 status_of NoCommand = Usage
@@ -22,6 +23,7 @@ status_of LongInstance = TooLarge
 status_of (Faulty fault) = BadInput
 status_of ManySites = TooLarge
 status_of (Optimum I P cost) = Done
+status_of (Ascent I d) = Done
 status_of CertificateUnread = ReadFault
 status_of LongCertificate = TooLarge
 status_of (Misspelt kind line) = CheckNo
@@ -41,6 +43,7 @@ text_of LongInstance = codes "too large instance\n"
 text_of (Faulty fault) = codes "bad input " ++ fault_text fault ++ codes "\n"
 text_of ManySites = codes "too large sites\n"
 text_of (Optimum I P cost) = plan_text_of I (Optimal cost) (Some P)
+text_of (Ascent I d) = duals_text_of I d
 text_of CertificateUnread = codes "read fault\n"
 text_of LongCertificate = codes "too large certificate\n"
 text_of (Misspelt kind line) = codes "no " ++ kind_name kind ++ codes " line " ++ decimal line ++ codes "\n"

@@ -3,13 +3,14 @@ use Rattle.std.specs.Prelude.{◌≡◌}
 use Rattle.shelf_port.specs.Files.{NeverFalls}
 use Rattle.shelf_port.specs.Ports.{ShelfState}
 use Rattle.location_terms.specs.Plan.{IsFeasible}
+use Rattle.report.specs.DualsText.{ArePrintable}
 use Rattle.dualoc_cli.specs.declared.reply.Reply.{Reply}
-use Rattle.dualoc_cli.specs.declared.reply.Reply.TheVariants.{NoCommand, InstanceUnread, LongInstance, Faulty, ManySites, Optimum, CertificateUnread, LongCertificate, Misspelt, Judged}
+use Rattle.dualoc_cli.specs.declared.reply.Reply.TheVariants.{NoCommand, InstanceUnread, LongInstance, Faulty, ManySites, Optimum, Ascent, CertificateUnread, LongCertificate, Misspelt, Judged}
 use Rattle.dualoc_cli.specs.declared.words.Command as told
 use Rattle.dualoc_cli.specs.declared.words.InstanceFile as told_file
 use Rattle.dualoc_cli.specs.declared.words.Job as told_job
 use Rattle.dualoc_cli.specs.declared.words.Job.TheVariants as in_memory
-use Rattle.dualoc_cli.specs.Command.{InstanceFile, Job, SolveShort, Check, Command, OnFile}
+use Rattle.dualoc_cli.specs.Command.{InstanceFile, Job, SolveShort, ShowDuals, Check, Command, OnFile}
 use Rattle.dualoc_cli.specs.Due.{Run}
 
 -- what a command in memory asks for
@@ -18,6 +19,7 @@ asked_file file = record { form = file.form; name = file.name.now; given = file.
 
 abbrev pub asked_job : told_job.Job → Job
 asked_job in_memory.SolveShort = SolveShort
+asked_job in_memory.ShowDuals = ShowDuals
 asked_job (in_memory.Check certificate) = Check certificate.now
 
 abbrev pub asked : told.Command → Command
@@ -29,7 +31,7 @@ pub record Covers (r : Run) (old new : ShelfState) : Type 0 where
   pub since : NeverFalls r.before.shelf.reads old.reads
   pub until : NeverFalls new.reads r.after.shelf.reads
 
--- the text of the reply can be made: its plan is one of its instance
+-- the text of the reply can be made: its plan is one of its instance, and its duals can be printed
 abbrev pub IsPrintable : Reply → Type 0
 IsPrintable NoCommand = Unit {0}
 IsPrintable InstanceUnread = Unit {0}
@@ -37,6 +39,7 @@ IsPrintable LongInstance = Unit {0}
 IsPrintable (Faulty fault) = Unit {0}
 IsPrintable ManySites = Unit {0}
 IsPrintable (Optimum I P cost) = IsFeasible I P
+IsPrintable (Ascent I d) = ArePrintable I d
 IsPrintable CertificateUnread = Unit {0}
 IsPrintable LongCertificate = Unit {0}
 IsPrintable (Misspelt kind line) = Unit {0}

@@ -3,6 +3,7 @@ ghost use Rattle.dualoc_cli.specs.Reply.{status_of};
 
 use crate::status::Status;
 use certificate_check::{CertKind, Verdict};
+use dual_value::Duals;
 use fixed_cost::FileFault;
 use instance_store::Instance;
 use plan_meaning::Plan;
@@ -22,6 +23,8 @@ pub enum Reply {
     ManySites,
     /// An optimal plan of the instance, and its cost in millionths.
     Optimum(Instance, Plan, u64),
+    /// The duals of an ascent of the instance from zeros, where nothing is decided yet.
+    Ascent(Instance, Duals),
     /// A read of the certificate's file failed.
     CertificateUnread,
     /// Nothing is decided by the first bytes of the certificate's file, up to the limit, and more follow.
@@ -42,7 +45,7 @@ impl Reply {
             Reply::Faulty(_) => Status::BadInput,
             Reply::InstanceUnread | Reply::CertificateUnread => Status::ReadFault,
             Reply::LongInstance | Reply::ManySites | Reply::LongCertificate => Status::TooLarge,
-            Reply::Optimum(..) | Reply::Judged(Verdict::Yes(_)) => Status::Done,
+            Reply::Optimum(..) | Reply::Ascent(..) | Reply::Judged(Verdict::Yes(_)) => Status::Done,
             Reply::Misspelt(..) | Reply::Judged(Verdict::No { .. }) => Status::CheckNo,
         }
     }

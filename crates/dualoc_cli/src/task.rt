@@ -4,7 +4,7 @@ ghost use Rattle.shelf_port.specs.Files.{NeverFalls};
 ghost use Rattle.shelf_port.specs.Ports.{shelf_state};
 ghost use Rattle.location_terms.specs.Plain.{IsPlain};
 ghost use Rattle.fixed_cost.specs.Reading.{Means};
-ghost use Rattle.dualoc_cli.specs.Command.{OnFile, SolveShort, Check, command_of, meaning_in};
+ghost use Rattle.dualoc_cli.specs.Command.{OnFile, SolveShort, ShowDuals, Check, command_of, meaning_in};
 ghost use Rattle.dualoc_cli.specs.Due.{Run, HasTask, IsCause};
 ghost use Rattle.dualoc_cli.specs.Step.{asked, asked_file, asked_job, Covers};
 
@@ -12,8 +12,11 @@ use crate::limits::MAX_INSTANCE_BYTES;
 use crate::reply::Reply;
 use crate::words::{Command, FileForm, InstanceFile, Job};
 use certificate_check::{CertFault, check};
+use dual_ascent::ascend;
+use dual_value::{Duals, Path};
 use fixed_cost::FormFault;
 use instance_store::{Instance, NoMemory};
+use lane_order::LaneOrder;
 use set_walk::{MAX_WALK_SITES, cheapest_plan};
 use shelf_port::{ReadWhole, Shelf, read_whole};
 use std::alloc::Global;
@@ -81,6 +84,7 @@ fn work<H: Shelf>(
 {
     match job {
         Job::SolveShort => solve(alloc, inst),
+        Job::ShowDuals => raise(alloc, inst),
         Job::Check(certificate) => judge(alloc, &inst, shelf, certificate),
     }
 }
@@ -94,6 +98,15 @@ fn solve(alloc: Global, inst: Instance) -> Result<Reply, NoMemory>
     }
     let best = cheapest_plan(alloc, &inst)?;
     Ok(Reply::Optimum(inst, best.plan, best.cost))
+}
+
+fn raise(alloc: Global, inst: Instance) -> Result<Reply, NoMemory>
+    ensures { IfOk result (λ reply. (r : Run) → HasTask r ShowDuals inst → IsCause r reply) }
+{
+    let order = LaneOrder::of(alloc, &inst)?;
+    let start = Duals::zeros(alloc, &inst, 1)?;
+    let duals = ascend(alloc, &inst, &order, &Path::root(alloc), start)?;
+    Ok(Reply::Ascent(inst, duals))
 }
 
 fn judge<H: Shelf>(

@@ -11,7 +11,7 @@ use instance_store::NoMemory;
 use location_terms::Claim;
 use number_words::print_number;
 use plan_meaning::PlanFault;
-use report::{plan_text, push_claim};
+use report::{duals_text, plan_text, push_claim};
 use std::alloc::{AllocError, Global};
 
 /// The text of a reply, as it is printed.
@@ -31,6 +31,7 @@ pub fn text(alloc: Global, reply: &Reply) -> Result<Vec<u8>, NoMemory>
         Reply::Optimum(inst, plan, cost) => {
             plan_text(alloc, inst, &Claim::Optimal(*cost), Some(plan))
         }
+        Reply::Ascent(inst, duals) => duals_text(alloc, inst, duals),
         Reply::Misspelt(kind, number) => misspelt(alloc, *kind, *number),
         Reply::Judged(verdict) => judged(alloc, *verdict),
     }

@@ -1,6 +1,6 @@
 ghost use Rattle.std.specs.Prelude.{◌≡◌, [], ◌∷◌, map, string_bytes};
 ghost use Rattle.std.specs.Option.{option_map};
-ghost use Rattle.dualoc_cli.specs.Command.{command_of, solve_of, check_of, are_names, form_of, plain_command};
+ghost use Rattle.dualoc_cli.specs.Command.{command_of, solve_of, duals_of, check_of, are_names, form_of, plain_command};
 ghost use Rattle.dualoc_cli.specs.Step.{asked, asked_job};
 
 /// A form of instance files.
@@ -37,6 +37,8 @@ pub struct InstanceFile<'a> {
 pub enum Job<'a> {
     /// To solve it by a walk over all sets of sites, and to print the plan.
     SolveShort,
+    /// To print the duals to which the ascent raises them where nothing is decided yet.
+    ShowDuals,
     /// To check the certificate in the file of this name against it.
     Check(&'a str),
 }
@@ -58,6 +60,7 @@ impl<'a> Command<'a> {
         };
         match verb.as_str() {
             "solve" => solve(words),
+            "duals" => duals(words),
             "check" => check(words),
             _ => None,
         }
@@ -71,6 +74,19 @@ fn solve(words: &[String]) -> Option<Command<'_>>
     match words {
         [form, file] if form.as_str() == "ufl" && !file.is_empty() => {
             Some(plain(Job::SolveShort, file.as_str(), FileForm::Ufl))
+        }
+        _ => None,
+    }
+}
+
+// The words behind `duals`.
+fn duals(words: &[String]) -> Option<Command<'_>>
+    ensures { option_map asked result ≡ duals_of (map string_bytes words.now) }
+{
+    match words {
+        [form, file] if !file.is_empty() => {
+            let form = FileForm::of(form.as_str())?;
+            Some(plain(Job::ShowDuals, file.as_str(), form))
         }
         _ => None,
     }

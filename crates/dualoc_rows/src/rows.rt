@@ -15,6 +15,9 @@ pub(crate) const TWO_SITES: &str = "FILE: a\n2 3 0\n1 10 1 2 9\n2 12 8 7 1\n";
 const ITS_PLAN: &str =
     "dualoc-plan 1\noptimal 22.000000\nsite 1 10.000000\nserve 1 1 1.000000\nserve 2 1 2.000000\nserve 3 1 9.000000\nend\n";
 
+const ITS_DUALS: &str =
+    "bound 22.000000\ncustomer 1 8.000000\ncustomer 2 5.000000\ncustomer 3 9.000000\nsite 1 0.000000\nsite 2 4.000000\n";
+
 // A file, the status of its short solve, and what is printed.
 const FILES: [(&str, Status, &str); 22] = [
     (TWO_SITES, Status::Done, ITS_PLAN),
@@ -117,8 +120,8 @@ const FILES: [(&str, Status, &str); 22] = [
     ),
 ];
 
-// Words that are no command, or name a file that isn't there.
-const WORDS: [(&[&str], Status, &str); 13] = [
+// Words over the file of the two sites: a command on it, on a file that isn't there, or none.
+const WORDS: [(&[&str], Status, &str); 17] = [
     (&[], Status::Usage, "usage\n"),
     (&["solve"], Status::Usage, "usage\n"),
     (&["solve", "ufl"], Status::Usage, "usage\n"),
@@ -127,6 +130,14 @@ const WORDS: [(&[&str], Status, &str); 13] = [
     (&["Solve", "ufl", "a"], Status::Usage, "usage\n"),
     (&["solve", "ufl", "a", "b"], Status::Usage, "usage\n"),
     (&["solve", "ufl", "b"], Status::ReadFault, "read fault\n"),
+    (&["duals", "ufl", "a"], Status::Done, ITS_DUALS),
+    (&["duals"], Status::Usage, "usage\n"),
+    (&["duals", "cap", "a"], Status::Usage, "usage\n"),
+    (
+        &["duals", "ufl", "a", "capacity=10"],
+        Status::Usage,
+        "usage\n",
+    ),
     (&["check", "ufl", "a"], Status::Usage, "usage\n"),
     (&["check", "ufl", "a", ""], Status::Usage, "usage\n"),
     (&["check", "ufl", "a", "a"], Status::Usage, "usage\n"),

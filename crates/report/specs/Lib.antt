@@ -1,1 +1,2 @@
+pub mod DualsText
 pub mod PlanText

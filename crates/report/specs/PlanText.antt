@@ -1,5 +1,5 @@
 -- The plan text: the claim, the open sites with their fixed costs, and who serves each customer at what cost.
-use Rattle.std.specs.Prelude.{ℕ, List, [], ◌∷◌, ◌++◌, flat_map, Option, None, Some, unwrap_or, codes, decimal}
+use Rattle.std.specs.Prelude.{ℕ, List, [], ◌++◌, flat_map, Option, None, Some, unwrap_or, codes, decimal}
 use Rattle.location_terms.specs.declared.claim.Claim.{Claim}
 use Rattle.location_terms.specs.declared.claim.Claim.TheVariants.{Optimal, Infeasible, Bracket}
 use Rattle.location_terms.specs.Instance.{Instance, lane, fixed_of}

@@ -1,6 +1,9 @@
 //! What is told of an answer, as text.
 #![tactic(auto)]
 
+mod duals;
+mod numbers;
 mod plan;
 
+pub use duals::duals_text;
 pub use plan::{plan_text, push_claim};

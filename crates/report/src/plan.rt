@@ -1,15 +1,13 @@
 //! The plan text.
-ghost use Rattle.std.specs.Prelude.{◌≡◌, ◌++◌, ◌<◌, length, IfOk, OnOk, IfSome, decimal, flat_map};
+ghost use Rattle.std.specs.Prelude.{◌≡◌, ◌++◌, ◌<◌, length, IfOk, OnOk, IfSome, flat_map};
 ghost use Rattle.std.specs.Option.{option_copied};
 ghost use Rattle.location_terms.specs.Instance.{IsValid};
 ghost use Rattle.location_terms.specs.Plan.{IsFeasible};
-ghost use Rattle.fixed_cost.specs.Print.{micro_text};
 ghost use Rattle.plan_meaning.specs.Plan.{serve_at};
 ghost use Rattle.report.specs.PlanText.{plan_text_of, claim_line, site_line, serve_line, high_text};
 
-use fixed_cost::print_micro;
+use crate::numbers::{push_amount, push_number};
 use instance_store::{Instance, NoMemory};
-use itoa::Buffer;
 use location_terms::Claim;
 use plan_meaning::{Plan, fixed_cost, lane_used};
 use std::alloc::{AllocError, Global};
@@ -108,18 +106,4 @@ fn push_serve(text: &mut Vec<u8>, inst: &Instance, plan: &Plan, k: usize) -> Res
     text.extend_from_slice(b" ")?;
     push_amount(text, cost)?;
     text.extend_from_slice(b"\n")
-}
-
-fn push_number(text: &mut Vec<u8>, n: u32) -> Result<(), AllocError>
-    ensures { OnOk result (text.new.items ≡ text.old.items ++ decimal n) }
-{
-    text.extend_from_slice(Buffer::new().format(n).as_bytes())
-}
-
-fn push_amount(text: &mut Vec<u8>, micro: u64) -> Result<(), AllocError>
-    ensures { OnOk result (text.new.items ≡ text.old.items ++ micro_text micro) }
-{
-    let mut buffer = [0; 24];
-    let len = print_micro(micro, &mut buffer);
-    text.extend_from_slice(&buffer[..len])
 }
