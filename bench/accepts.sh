@@ -9,20 +9,7 @@ customers=${2:-500}
 depth=${3:-13}
 dir=$(mktemp -d)
 trap 'rm -rf "$dir"' EXIT
-mkdir -p "$dir/repo/crates/accepts_bench/src"
-cp "$top/HANDLES" "$top/crates.txt" "$dir/repo/"
-for crate in "$top"/crates/*/; do
-  mkdir -p "$dir/repo/crates/$(basename "$crate")"
-  for part in src specs proofs; do
-    [ -d "$crate$part" ] && cp -r "$crate$part" "$dir/repo/crates/$(basename "$crate")/"
-  done
-done
-cp "$top/bench/accepts/main.txt" "$dir/repo/crates/accepts_bench/src/main.rt"
-echo "accepts_bench: location_terms shelf_port fixed_cost instance_store ufllib_read branch_tree certificate_text" >>"$dir/repo/crates.txt"
-git -C "$dir/repo" init -q
-(cd "$dir/repo/crates/accepts_bench" && rt run </dev/null >"$dir/log" 2>&1) || true
-program=$dir/repo/crates/accepts_bench/out/accepts_bench
-[ -x "$program" ] || { tail -20 "$dir/log" >&2; exit 70; }
+program=$("$top/bench/program.sh" "$dir" accepts location_terms shelf_port fixed_cost instance_store ufllib_read branch_tree certificate_text)
 python3 "$top/bench/certificate.py" "$sites" "$customers" "$depth" "$dir/instance.txt" "$dir/certificate.txt"
 PYTHONPATH=$top/bench python3 - "$program" "$dir/instance.txt" "$dir/certificate.txt" "$sites" "$customers" "$depth" <<'P'
 import sys
