@@ -7,3 +7,5 @@ pub mod Admitted
 pub mod Payments
 pub mod Walked
 pub mod Zeros
+pub mod Wide
+pub mod Further

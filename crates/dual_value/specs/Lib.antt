@@ -7,3 +7,4 @@ pub mod Slacks
 pub mod PreparedSites
 pub mod Sorted
 pub mod Zeros
+pub mod Scales

@@ -8,9 +8,11 @@ mod box_bounds;
 mod closing;
 mod duals;
 mod fit;
+mod laws;
 mod path;
 mod prepared;
 mod preparing;
+mod scales;
 mod settled;
 mod slacks;
 
@@ -19,9 +21,11 @@ pub use box_bounds::BoxBounds;
 pub use closing::closes;
 pub use duals::Duals;
 pub use fit::{RangeFault, fits, tame};
+pub use laws::bounds_rise;
 pub use location_terms::Decision;
 pub use path::Path;
 pub use prepared::PreparedBox;
+pub use scales::{is_at_least, is_greater};
 pub use settled::{SiteState, allowed, is_torn, site_state};
 pub use slacks::{bound_from, fill_slacks};
 

@@ -1,5 +1,7 @@
 //! A path of decisions. A clause sees the list.
 ghost use Rattle.std.specs.Prelude.{◌≡◌, ◌+◌, ◌<◌, ◌↔◌, [], ◌∷◌, ◌++◌, length, slice_get, IsTrue, IfOk, OnOk, OnErr};
+ghost use Rattle.location_terms.specs.declared.decision.Decision.{Decision};
+ghost use Rattle.location_terms.specs.Box.{Path as Decisions};
 ghost use Rattle.dual_value.specs.Lanes.{is_lane_step, steps_on_lanes};
 
 use instance_store::NoMemory;
@@ -87,6 +89,22 @@ impl Path {
             self.lane_steps -= 1;
         }
         step
+    }
+
+    /// Puts another step in the place of the last one.
+    pub fn replace_last(&mut self, step: Decision)
+        requires { 0 < length self.old }
+        ensures { (front : Decisions) (last : Decision) → self.old ≡ front ++ last ∷ [] → self.new ≡ front ++ step ∷ [] }
+    {
+        let last = self.steps.pop().unwrap();
+        if is_on_lane(&last) {
+            self.lane_steps -= 1;
+        }
+        let on_lane = is_on_lane(&step);
+        self.steps.push_reserved(step);
+        if on_lane {
+            self.lane_steps += 1;
+        }
     }
 
     /// The number of steps.

@@ -508,3 +508,14 @@ fn decisions_on_the_example(rt: HostRuntime) -> Result<(), Fail> {
     assert!(rt; tears_the_box(alloc, &mut inst));
     Ok(())
 }
+
+#[test]
+fn bounds_at_two_scales(rt: HostRuntime) -> Result<(), Fail> {
+    let most = 10_000_000_000_000_000_000_000_000_000_000_000_000;
+    assert!(rt; is_at_least(2, 3, 4, 6));
+    assert!(rt; !is_greater(2, 3, 4, 6));
+    assert!(rt; is_greater(most, 999_999, most, 1_000_000));
+    assert!(rt; is_greater(-most, 1_000_000, -most, 999_999));
+    assert!(rt; !is_at_least(-1, 1_000_000, 0, 1));
+    Ok(())
+}
