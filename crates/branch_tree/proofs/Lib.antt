@@ -6,3 +6,7 @@ pub mod Found
 pub mod Spliced
 pub mod Above
 pub mod Whole
+pub mod OpenSplits
+pub mod Growing
+pub mod Built
+pub mod LowEnd

@@ -31,19 +31,19 @@ put_left [] ys m p h = absurd (omega arith)
 put_left (x ∷ xs) ys m zero h = sym (append_assoc m xs ys)
 put_left (x ∷ xs) ys m (suc p) h = put_later x (xs ++ ys) m p ∙ ap (λ es. x ∷ es) (put_left xs ys m p (omega arith)) ∙ ap (λ es. es ++ ys) (sym (put_later x xs m p))
 
-put_right : (xs ys m : List Entry) (p q : ℕ) → p ≡ length xs + q → put (xs ++ ys) p m ≡ xs ++ put ys q m
+pub put_right : (xs ys m : List Entry) (p q : ℕ) → p ≡ length xs + q → put (xs ++ ys) p m ≡ xs ++ put ys q m
 put_right [] ys m p q h = let same : p ≡ q = omega arith in ap (λ k. put ys k m) same
 put_right (x ∷ xs) ys m zero q h = absurd (omega arith)
 put_right (x ∷ xs) ys m (suc p) q h = put_later x (xs ++ ys) m p ∙ ap (λ es. x ∷ es) (put_right xs ys m p q (omega arith))
 
 -- how many leaves stand before a place
-abbrev before : List Entry → ℕ → ℕ
+abbrev pub before : List Entry → ℕ → ℕ
 before n p = count_by is_end (take p n)
 
 before_left : (xs ys : List Entry) (p : ℕ) → p ≤ length xs → before (xs ++ ys) p ≡ before xs p
 before_left xs ys p h = ap (count_by is_end) (take-append-le p xs ys h)
 
-counted-append : (xs ys : List Entry) → count_by is_end (xs ++ ys) ≡ count_by is_end xs + count_by is_end ys
+pub counted-append : (xs ys : List Entry) → count_by is_end (xs ++ ys) ≡ count_by is_end xs + count_by is_end ys
 counted-append [] ys = omega arith
 counted-append (End d ∷ xs) ys = omega (arith, counted_end d (xs ++ ys), counted_end d xs, counted-append xs ys)
 counted-append (SiteSplit s ∷ xs) ys = omega (arith, counted_site s (xs ++ ys), counted_site s xs, counted-append xs ys)
@@ -67,12 +67,12 @@ take_right [] ys p q h = let same : p ≡ q = omega arith in ap (λ k. take k ys
 take_right (x ∷ xs) ys zero q h = absurd (omega arith)
 take_right (x ∷ xs) ys (suc p) q h = ap (λ es. x ∷ es) (take_right xs ys p q (omega arith))
 
-get_left : (xs ys : List Entry) (p : ℕ) → p < length xs → slice_get (xs ++ ys) p ≡ slice_get xs p
+pub get_left : {X : Type 0} (xs ys : List X) (p : ℕ) → p < length xs → slice_get (xs ++ ys) p ≡ slice_get xs p
 get_left [] ys p h = absurd (omega arith)
 get_left (x ∷ xs) ys zero h = refl
 get_left (x ∷ xs) ys (suc p) h = get_left xs ys p (omega arith)
 
-get_right : (xs ys : List Entry) (p q : ℕ) → p ≡ length xs + q → slice_get (xs ++ ys) p ≡ slice_get ys q
+pub get_right : {X : Type 0} (xs ys : List X) (p q : ℕ) → p ≡ length xs + q → slice_get (xs ++ ys) p ≡ slice_get ys q
 get_right [] ys p q h = let same : p ≡ q = omega arith in ap (slice_get ys) same
 get_right (x ∷ xs) ys zero q h = absurd (omega arith)
 get_right (x ∷ xs) ys (suc p) q h = get_right xs ys p q (omega arith)

@@ -4,3 +4,6 @@ pub mod Walk
 pub mod Leaf
 pub mod Above
 pub mod Begun
+pub mod Growing
+pub mod OpenSplits
+pub mod Built

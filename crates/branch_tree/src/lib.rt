@@ -6,14 +6,21 @@
 mod bounds;
 mod builder;
 mod entry;
+mod growth;
+mod laws;
 mod leaves;
 mod node;
+mod open_split;
+mod split;
 mod tree;
 mod walk;
 
 pub use builder::Builder;
 pub use dual_value::{Decision, Duals, Path};
+pub use growth::Growth;
+pub use laws::closes_against_its_low_end;
 pub use node::Node;
+pub use split::Split;
 pub use tree::Tree;
 pub use walk::pass_leaf;
 

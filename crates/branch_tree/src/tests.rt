@@ -1,4 +1,4 @@
-ghost use Rattle.std.specs.Prelude.{◌≡◌, ◌+◌, ◌≤◌, Contains, IfOk};
+ghost use Rattle.std.specs.Prelude.{◌≡◌, ◌+◌, ◌<◌, ◌≤◌, Contains, IfOk};
 ghost use Rattle.location_terms.specs.Instance.{site_ids};
 ghost use Rattle.location_terms.specs.Fit.{DualsFit};
 ghost use Rattle.location_terms.specs.Tree.{StandsOn, nodes_of};
@@ -347,5 +347,60 @@ fn passes_from_leaf_to_leaf(rt: HostRuntime) -> Result<(), Fail> {
     path.push(Decision::Closed(SiteId::new(1)))?;
     path.push(Decision::Opened(SiteId::new(2)))?;
     assert!(rt; passes_from(path));
+    Ok(())
+}
+
+// Whether the leaf at work is this child of a split on the first site, and its duals have these values.
+fn works_on(growth: &Growth, opened: bool, v: [i128; 3]) -> bool
+    requires { 0 < growth.now.left }
+{
+    !growth.is_done()
+        && has_steps(growth.path(), step_to(opened), None)
+        && growth.duals().values() == v.as_slice()
+}
+
+// The example's tree, grown from a leaf whose duals are the last of these, as those of its children
+// before they are worked. The answer says whether each leaf was at work in its turn.
+fn grows(
+    alloc: Global,
+    inst: &Instance,
+    site: SiteId,
+    closed: Duals,
+    opened: Duals,
+    weak: Duals,
+) -> Result<bool, NoMemory>
+    requires site { Contains (site_ids inst.now) site }
+    requires closed { DualsFit inst.now closed }
+    requires opened { DualsFit inst.now opened }
+    requires weak { DualsFit inst.now weak }
+{
+    let again = weak.copied()?;
+    let mut growth = Growth::of(alloc, inst, Path::root(alloc), weak)?;
+    growth.split(Split::Site(site), again, opened)?;
+    let second = works_on(&growth, true, [0, 0, 2_000_000]);
+    growth.finish();
+    growth.set_duals(closed);
+    let first = works_on(&growth, false, [2_000_000, 2_000_000, 0]);
+    growth.finish();
+    let done = growth.is_done() && growth.nodes() == 3;
+    Ok(second && first && done && has_example_nodes(&growth.into_tree()))
+}
+
+fn grows_the_example(alloc: Global, inst: &Instance) -> Result<bool, Fail> {
+    let closed = duals(alloc, inst, 1, [2_000_000, 2_000_000, 0])?;
+    let opened = duals(alloc, inst, 1, [0, 0, 2_000_000])?;
+    let weak = duals(alloc, inst, 1, [0, 0, 0])?;
+    let site = SiteId::new(1);
+    if inst.site_at(site).is_none() {
+        return Err(Fail::new("no such site"));
+    }
+    Ok(grows(alloc, inst, site, closed, opened, weak)?)
+}
+
+#[test]
+fn grows_leaf_by_leaf(rt: HostRuntime) -> Result<(), Fail> {
+    let alloc = rt.alloc();
+    let inst = example(alloc)?;
+    assert!(rt; grows_the_example(alloc, &inst)?);
     Ok(())
 }
