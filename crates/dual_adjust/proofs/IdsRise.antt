@@ -20,7 +20,7 @@ places_rise n k b =
     omega (arith, inside, get_or-range_with_len 0 n k 0 (omega arith), get_or-range_with_len 0 n (k + 1) 0 inside)
 
 -- numbers that rise with the places rise where some places are picked
-picked_rise : (f : ℕ → ℕ) (n : ℕ) → ((i k : ℕ) → i < k → k < n → f i < f k) → (p : ℕ → Bool) → IsStrictlyIncreasing (map f (filter p (range_with_len 0 n)))
+pub picked_rise : (f : ℕ → ℕ) (n : ℕ) → ((i k : ℕ) → i < k → k < n → f i < f k) → (p : ℕ → Bool) → IsStrictlyIncreasing (map f (filter p (range_with_len 0 n)))
 picked_rise f n rises p k b =
     let ps : List ℕ = filter p (range_with_len 0 n) in
     let next : k + 1 < length ps = omega (arith, b, length-map ps f) in
@@ -30,24 +30,25 @@ picked_rise f n rises p k b =
     let up : f (get_or ps k 0) < f (get_or ps (k + 1) 0) = rises (get_or ps k 0) (get_or ps (k + 1) 0) more inside in
     omega (arith, up, get_or-map f ps k 0 0 this, get_or-map f ps (k + 1) 0 0 next)
 
-module _ (I : Instance) (path : Path) (d : Duals) (valid : IsValid I) where
-  sites_rise : (i k : ℕ) → i < k → k < length I.sites → (site_at I i).id < (site_at I k).id
+module _ (I : Instance) (valid : IsValid I) where
+  pub sites_rise : (i k : ℕ) → i < k → k < length I.sites → (site_at I i).id < (site_at I k).id
   sites_rise i k before b =
       let inside : k < length (site_ids I) = omega (arith, b, length-site_ids I) in
       let h : get_or (site_ids I) i 0 < get_or (site_ids I) k 0 = AllPairs-from_increasing (site_ids I) valid.sites_named.rising i k 0 before inside in
       omega (arith, h, slice_index-site_ids I i (omega arith), slice_index-site_ids I k b)
 
-  customers_rise : (i k : ℕ) → i < k → k < length I.customers → (customer_at I i).id < (customer_at I k).id
+  pub customers_rise : (i k : ℕ) → i < k → k < length I.customers → (customer_at I i).id < (customer_at I k).id
   customers_rise i k before b =
       let inside : k < length (customer_ids I) = omega (arith, b, length-customer_ids I) in
       let h : get_or (customer_ids I) i 0 < get_or (customer_ids I) k 0 = AllPairs-from_increasing (customer_ids I) valid.customers_named.rising i k 0 before inside in
       omega (arith, h, slice_index-customer_ids I i (omega arith), slice_index-customer_ids I k b)
 
+module _ (I : Instance) (path : Path) (d : Duals) (valid : IsValid I) where
   pub tight_sites_rise : IsStrictlyIncreasing (tight_sites I path d)
-  tight_sites_rise = picked_rise (λ i. (site_at I i).id) (length I.sites) sites_rise (is_tight I path d)
+  tight_sites_rise = picked_rise (λ i. (site_at I i).id) (length I.sites) (sites_rise I valid) (is_tight I path d)
 
   pub violations_rise : (sites : List ℕ) → IsStrictlyIncreasing (violations I path d sites)
-  violations_rise sites = picked_rise (λ j. (customer_at I j).id) (length I.customers) customers_rise (is_violating I path d sites)
+  violations_rise sites = picked_rise (λ j. (customer_at I j).id) (length I.customers) (customers_rise I valid) (is_violating I path d sites)
 
 -- one more place, where it is picked
 pub picked_next : (f : ℕ → ℕ) (p : ℕ → Bool) (k : ℕ) → map f (filter p (range_with_len 0 (k + 1))) ≡ map f (filter p (range_with_len 0 k)) ++ cond (p k) (f k ∷ []) []

@@ -21,7 +21,7 @@ use Rattle.lane_order.specs.Building.{placed_cmp, first_lanes, AreSortedLanes}
 use Rattle.lane_order.proofs.Gathered.{IsLaneOf, first_lanes_are, first_lanes_have, first_lanes_differ, same_site}
 
 -- a lane at a place that is not less than one of another site comes after it
-after : (p q r s : ℕ) → is_lt (ordering_then (nat_cmp q p) (nat_cmp s r)) ≡ false → (r ≡ s → ⊥) → (p < q) ⊎ ((p ≡ q) × (r < s))
+pub after : (p q r s : ℕ) → is_lt (ordering_then (nat_cmp q p) (nat_cmp s r)) ≡ false → (r ≡ s → ⊥) → (p < q) ⊎ ((p ≡ q) × (r < s))
 after p q r s not_less apart =
     elim (cases_order p q) [
       | inl same ↦

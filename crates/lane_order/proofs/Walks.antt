@@ -75,7 +75,7 @@ module _ (I : Instance) (order : Order) (of : IsOrderOf order I) (j : ℕ) (with
 
   -- lanes by place, as `lanes` gives them
   module _ (lanes : List PlacedLane) (exact : map (named order.sites) lanes ≡ lanes_to order j) (known : All (λ l. l.site < length order.sites) lanes) where
-    id-of : (i : ℕ) → i < length I.sites → slice_index order.sites i ≡ (site_at I i).id
+    pub id-of : (i : ℕ) → i < length I.sites → slice_index order.sites i ≡ (site_at I i).id
     id-of i b = ap (λ ids. slice_index ids i) of.same_sites ∙ slice_index-site_ids I i b
 
     pub site_within : (k : ℕ) (d : PlacedLane) → k < length lanes → (get_or lanes k d).site < length I.sites

@@ -10,7 +10,7 @@ mod plan;
 #[cfg(test)]
 mod tests;
 
-pub use amounts::{fixed_cost, lane_used, load};
+pub use amounts::{cost, fixed_cost, lane_used, load};
 pub use fault::PlanFault;
 pub use judging::judge;
 pub use plan::Plan;

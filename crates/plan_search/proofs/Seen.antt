@@ -1,0 +1,23 @@
+-- What is known of the plan that is packed.
+use Rattle.std.proofs.Common.{◌≡◌, ℕ, List, Option, None, Some, sym}
+use Rattle.std.specs.Prelude.{IfSome}
+use Rattle.location_terms.specs.Instance.{Instance, IsValid}
+use Rattle.location_terms.specs.Plan.{Plan, IsFeasible}
+use Rattle.location_terms.specs.Box.{Path, IsInBox}
+use Rattle.plan_search.specs.InBox.{IsPathOf, HasNoCaps, SettlesSites, IsBestIn}
+use Rattle.plan_search.specs.Packed.{packed}
+use Rattle.plan_search.proofs.Feasible.{packed_feasible, packed_in_box}
+use Rattle.plan_search.proofs.Cheapest.{packed_cheapest, never_none}
+
+module _ (I : Instance) (path : Path) (hint : List ℕ) (valid : IsValid I) where
+  pub seen_feasible : (plan : Option Plan) → plan ≡ packed I path hint → IfSome plan (IsFeasible I)
+  seen_feasible None is = tt
+  seen_feasible (Some P) is = packed_feasible I path hint valid P (sym is)
+
+  pub seen_in_box : IsPathOf I path → (plan : Option Plan) → plan ≡ packed I path hint → IfSome plan (λ P. IsInBox P path)
+  seen_in_box known None is = tt
+  seen_in_box known (Some P) is = packed_in_box I path hint valid P (sym is) known
+
+  pub seen_best : IsPathOf I path → HasNoCaps I → SettlesSites I path → (plan : Option Plan) → plan ≡ packed I path hint → IsBestIn I path plan
+  seen_best known no_caps settled None is = λ Q can box. never_none I path hint valid no_caps settled Q can box (sym is)
+  seen_best known no_caps settled (Some P) is = packed_cheapest I path hint valid known no_caps settled P (sym is)

@@ -1,0 +1,5 @@
+pub mod InBox
+pub mod Packed
+pub mod Flags
+pub mod Packing
+pub mod Turns

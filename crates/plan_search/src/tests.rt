@@ -1,0 +1,238 @@
+ghost use Rattle.std.specs.Prelude.{◌≤◌, IfOk};
+
+use super::*;
+use dual_value::Path;
+use instance_store::{CustId, CustRow, Instance, LaneRow, NoMemory, SiteId, SiteRow, SiteStatus};
+use lane_order::LaneOrder;
+use location_terms::Decision;
+use plan_meaning::Plan;
+use std::alloc::Global;
+use std::test::Fail;
+
+// Three sites, the third without a capacity, and three customers with demands of 3, 3 and 2 units. It
+// costs 1 to serve one from the first site, 2 from the second and 9 from the third, which doesn't
+// reach the second customer.
+fn shelves(alloc: Global) -> Result<Instance, NoMemory> {
+    let near = LaneRow::from_slice(alloc, &[Some(1_000_000), Some(1_000_000), Some(1_000_000)])?;
+    let mid = LaneRow::from_slice(alloc, &[Some(2_000_000), Some(2_000_000), Some(2_000_000)])?;
+    let far = LaneRow::from_slice(alloc, &[Some(9_000_000), None, Some(9_000_000)])?;
+    let sites = vec![in alloc;
+        SiteRow {
+            id: SiteId::new(1),
+            fixed: 1_000_000,
+            cap: Some(5_000_000),
+            lanes: near
+        },
+        SiteRow {
+            id: SiteId::new(2),
+            fixed: 1_000_000,
+            cap: Some(5_000_000),
+            lanes: mid
+        },
+        SiteRow {
+            id: SiteId::new(3),
+            fixed: 1_000_000,
+            cap: None,
+            lanes: far
+        },
+    ]?;
+    let custs = vec![in alloc;
+        CustRow {
+            id: CustId::new(1),
+            demand: 3_000_000
+        },
+        CustRow {
+            id: CustId::new(2),
+            demand: 3_000_000
+        },
+        CustRow {
+            id: CustId::new(3),
+            demand: 2_000_000
+        },
+    ]?;
+    Instance::from_parts(alloc, 1, 2, 4, 4, custs, sites)
+}
+
+fn ids(alloc: Global, numbers: &[u32]) -> Result<Vec<SiteId>, NoMemory> {
+    let mut ids = Vec::new(alloc);
+    for number in numbers {
+        ids.push(SiteId::new(*number))?;
+    }
+    Ok(ids)
+}
+
+fn path(alloc: Global, steps: &[Decision]) -> Result<Path, NoMemory> {
+    let mut path = Path::root(alloc);
+    for step in steps {
+        path.push(*step)?;
+    }
+    Ok(path)
+}
+
+// Whether the plan opens just these sites and serves the customers from these, in order.
+fn is_plan(plan: &Plan, sites: &[u32], from: &[u32]) -> bool {
+    plan.site_count() == sites.len()
+        && plan.serve_count() == from.len()
+        && (0..sites.len()).all(|k| plan.site(k).number() == sites[k])
+        && (0..from.len()).all(|k| plan.serve(k).1.number() == from[k])
+}
+
+// Three places on a road, 4 and 7 apart. One site is to be open, which serves the customers at all three.
+fn road(alloc: Global) -> Result<Instance, NoMemory> {
+    let left = LaneRow::from_slice(alloc, &[Some(0), Some(4_000_000), Some(11_000_000)])?;
+    let middle = LaneRow::from_slice(alloc, &[Some(4_000_000), Some(0), Some(7_000_000)])?;
+    let right = LaneRow::from_slice(alloc, &[Some(11_000_000), Some(7_000_000), Some(0)])?;
+    let sites = vec![in alloc;
+        SiteRow {
+            id: SiteId::new(1),
+            fixed: 0,
+            cap: None,
+            lanes: left
+        },
+        SiteRow {
+            id: SiteId::new(2),
+            fixed: 0,
+            cap: None,
+            lanes: middle
+        },
+        SiteRow {
+            id: SiteId::new(3),
+            fixed: 0,
+            cap: None,
+            lanes: right
+        },
+    ]?;
+    let custs = vec![in alloc;
+        CustRow {
+            id: CustId::new(1),
+            demand: 0
+        },
+        CustRow {
+            id: CustId::new(2),
+            demand: 0
+        },
+        CustRow {
+            id: CustId::new(3),
+            demand: 0
+        },
+    ]?;
+    Instance::from_parts(alloc, 1, 1, 4, 4, custs, sites)
+}
+
+// What is seen in the box of these steps for this hint, where the steps name sites and customers of
+// the instance.
+fn seen(
+    alloc: Global,
+    inst: &Instance,
+    steps: &[Decision],
+    hint: &[u32],
+) -> Result<Option<Option<Plan>>, NoMemory> {
+    let order = LaneOrder::of(alloc, inst)?;
+    let path = path(alloc, steps)?;
+    let hint = ids(alloc, hint)?;
+    if !is_path_of(inst, &path) {
+        return Ok(None);
+    }
+    let plan = best_seen(alloc, inst, &order, &path, &hint)?;
+    Ok(Some(plan))
+}
+
+// Whether that is the plan that opens these sites and serves the customers from these, in order.
+fn is_seen(
+    alloc: Global,
+    inst: &Instance,
+    steps: &[Decision],
+    hint: &[u32],
+    sites: &[u32],
+    from: &[u32],
+) -> bool {
+    match seen(alloc, inst, steps, hint) {
+        Ok(Some(Some(plan))) => is_plan(&plan, sites, from),
+        _ => false,
+    }
+}
+
+fn is_none_seen(alloc: Global, inst: &Instance, steps: &[Decision], hint: &[u32]) -> bool {
+    match seen(alloc, inst, steps, hint) {
+        Ok(Some(None)) => true,
+        _ => false,
+    }
+}
+
+#[test]
+fn packs_by_falling_demand(rt: HostRuntime) -> Result<(), Fail> {
+    let alloc = rt.alloc();
+    let inst = shelves(alloc)?;
+    assert!(rt; is_seen(alloc, &inst, &[], &[1, 2], &[1, 2], &[1, 2, 1]));
+    assert!(rt; is_none_seen(alloc, &inst, &[], &[]));
+    assert!(rt; is_seen(alloc, &inst, &[], &[1, 2, 3], &[1, 2], &[1, 2, 1]));
+    assert!(rt; is_none_seen(alloc, &inst, &[], &[1, 3]));
+    Ok(())
+}
+
+#[test]
+fn keeps_to_the_box(rt: HostRuntime) -> Result<(), Fail> {
+    let alloc = rt.alloc();
+    let inst = shelves(alloc)?;
+    let site = SiteId::new(1);
+    let other = SiteId::new(2);
+    let cust = CustId::new(1);
+    assert!(rt; is_none_seen(alloc, &inst, &[Decision::Closed(site)], &[1, 2]));
+    assert!(rt; is_none_seen(alloc, &inst, &[Decision::Opened(SiteId::new(3))], &[1, 2]));
+    assert!(rt;
+        is_seen(
+            alloc,
+            &inst,
+            &[Decision::No(site, cust)],
+            &[1, 2],
+            &[1, 2],
+            &[2, 1, 1]
+        )
+    );
+    assert!(rt;
+        is_seen(
+            alloc,
+            &inst,
+            &[Decision::Yes(other, cust)],
+            &[1],
+            &[1, 2],
+            &[2, 1, 1]
+        )
+    );
+    assert!(rt;
+        is_none_seen(
+            alloc,
+            &inst,
+            &[Decision::Opened(other), Decision::Closed(other)],
+            &[1]
+        )
+    );
+    Ok(())
+}
+
+// The shelves with this status of the site at a place.
+fn settled(alloc: Global, site: usize, status: SiteStatus) -> Result<Instance, NoMemory> {
+    let mut inst = shelves(alloc)?;
+    if site < inst.sites() {
+        inst.set_status(site, status);
+    }
+    Ok(inst)
+}
+
+#[test]
+fn keeps_to_statuses(rt: HostRuntime) -> Result<(), Fail> {
+    let alloc = rt.alloc();
+    let inst = settled(alloc, 1, SiteStatus::MustOpen)?;
+    assert!(rt; is_seen(alloc, &inst, &[], &[1], &[1, 2], &[1, 2, 1]));
+    let inst = settled(alloc, 0, SiteStatus::MustClose)?;
+    assert!(rt; is_none_seen(alloc, &inst, &[], &[1, 2]));
+    Ok(())
+}
+
+#[test]
+fn exchanges_the_site_that_is_open(rt: HostRuntime) -> Result<(), Fail> {
+    let alloc = rt.alloc();
+    let inst = road(alloc)?;
+    assert!(rt; is_seen(alloc, &inst, &[], &[], &[2], &[2, 2, 2]));
+    Ok(())
+}
