@@ -1,0 +1,31 @@
+-- How a tree comes from another by a search, and what plans the search has to have sought.
+use Rattle.std.specs.Prelude.{◌≡◌, ◌⊎◌, ℕ, ◌≤◌, [], ◌∷◌, ◌++◌, All, Option, Some, IsSomeAnd}
+use Rattle.location_terms.specs.Instance.{Instance}
+use Rattle.location_terms.specs.Plan.{Plan, cost_of}
+use Rattle.location_terms.specs.Box.{Path}
+use Rattle.location_terms.specs.declared.decision.Decision.TheVariants.{Opened, Closed, Yes, No}
+use Rattle.location_terms.specs.Fit.{Closes}
+use Rattle.location_terms.specs.Tree.{Node, Leaf, OnSite, OnLane, Tree, leaves_of}
+use Rattle.dual_adjust.specs.Slackness.{tight_sites}
+use Rattle.plan_search.specs.Packed.{packed}
+use Rattle.tree_search.specs.Made.{IsMade}
+
+-- below this path a leaf that closes against the target stands unchanged, and each other one is replaced by a tree that was made
+abbrev pub IsGrownBelow : Instance → Option ℕ → Path → Node → Node → Type 0
+IsGrownBelow I target path (Leaf d) new = (Closes I path d target × (new ≡ Leaf d)) ⊎ ((Closes I path d target → ⊥) × IsMade I target path d path new)
+IsGrownBelow I target path (OnSite s closed opened) (OnSite s_now closed_now opened_now) =
+    (s ≡ s_now) × IsGrownBelow I target (path ++ Closed s ∷ []) closed closed_now × IsGrownBelow I target (path ++ Opened s ∷ []) opened opened_now
+IsGrownBelow I target path (OnLane s c without using) (OnLane s_now c_now without_now using_now) =
+    (s ≡ s_now) × (c ≡ c_now) × IsGrownBelow I target (path ++ No s c ∷ []) without without_now × IsGrownBelow I target (path ++ Yes s c ∷ []) using using_now
+IsGrownBelow I target path old new = ⊥
+
+-- the new tree stands on the same ids and has the old one's splits, and each leaf of the old one that doesn't close with the target was worked
+pub record IsGrownFrom (I : Instance) (target : Option ℕ) (old new : Tree) : Type 0 where
+  pub sites : new.sites ≡ old.sites
+  pub customers : new.customers ≡ old.customers
+  pub root : IsGrownBelow I target [] old.root new.root
+
+-- for each leaf with a scale, where packing on its tight sites gives a plan, there is a plan that costs at most as much
+abbrev pub PlansWereSought : Instance → Tree → Option Plan → Type 0
+PlansWereSought I t plan =
+    All (λ l. 1 ≤ l.1.q → (P : Plan) → packed I l.0 (tight_sites I l.0 l.1) ≡ Some P → IsSomeAnd plan (λ Q. cost_of I Q ≤ cost_of I P)) (leaves_of t)

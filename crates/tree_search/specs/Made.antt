@@ -1,0 +1,107 @@
+-- What a search puts into the place of a leaf that is open: a tree whose leaves are at least as good as the plain ascent's, and
+-- which splits no box that needs no split. The rule is the suite's own.
+use Rattle.std.specs.Prelude.{◌≡◌, ◌≢◌, ◌⊎◌, ℕ, ◌<◌, ◌≤◌, [], ◌∷◌, ◌++◌, length, Contains, Option, Some, IfSome, is_some, IsTrue, IsFalse, ℤ, pos, ◌*ℤ◌, ◌≤ℤ◌, ◌<ℤ◌, if◌then◌else◌}
+use Rattle.std.specs.List.{list_any}
+use Rattle.location_terms.specs.Instance.{Instance, site_at, customer_at}
+use Rattle.location_terms.specs.Plan.{Plan, cost_of}
+use Rattle.location_terms.specs.Box.{Path, is_free, is_allowed}
+use Rattle.location_terms.specs.declared.decision.Decision.TheVariants.{Opened, Closed, Yes, No}
+use Rattle.location_terms.specs.Bound.{Duals, bound_of}
+use Rattle.location_terms.specs.Fit.{DualsFit, AreTame, BoundCloses}
+use Rattle.location_terms.specs.Tree.{Node, Leaf, OnSite, OnLane}
+use Rattle.location_terms.specs.declared.limits.TheConstants.{MAX_SCALE}
+use Rattle.dual_ascent.specs.Levels.{servers}
+use Rattle.dual_value.specs.Zeros.{zeros}
+use Rattle.dual_ascent.specs.Ascent.{IsAscended, IsBlocked}
+use Rattle.dual_adjust.specs.Slackness.{tight_sites}
+use Rattle.dual_adjust.specs.Adjustment.{Gains}
+use Rattle.plan_search.specs.Packed.{packed}
+
+-- The plain ascent of a box.
+
+-- its scale: 1 where no site has a capacity, and else 1,000
+abbrev pub plain_scale : Instance → ℕ
+plain_scale I = if list_any (λ s. is_some s.cap) I.sites then 1000 else 1
+
+-- the duals of the ascent from zeros in the box
+abbrev pub IsPlainAscent : Instance → Path → Duals → Type 0
+IsPlainAscent I path d = IsAscended I path (zeros I (plain_scale I)) d
+
+-- Leaves.
+
+-- the scales of the leaves that are made: that of the plain ascent, and where no site has a capacity the greatest of all
+abbrev pub IsMadeScale : Instance → ℕ → Type 0
+IsMadeScale I q = (q ≡ plain_scale I) ⊎ ((plain_scale I ≡ 1) × (q ≡ MAX_SCALE))
+
+-- b / q is at least c / r, without a division: a bound at scale q against one at scale r
+abbrev pub IsAtLeast : ℤ → ℕ → ℤ → ℕ → Type 0
+IsAtLeast b q c r = (pos q *ℤ c) ≤ℤ (pos r *ℤ b)
+
+-- b / q is greater than c / r
+abbrev pub IsGreater : ℤ → ℕ → ℤ → ℕ → Type 0
+IsGreater b q c r = (pos q *ℤ c) <ℤ (pos r *ℤ b)
+
+-- every customer has an allowed lane in the box
+abbrev pub AreServed : Instance → Path → Type 0
+AreServed I path = (j : ℕ) → j < length I.customers → length (servers I path j) ≢ 0
+
+-- A leaf of at least scale 1 in a box, made below a leaf whose path and duals are `old_path` and `old`: it is no weaker than the
+-- plain ascent of its box, stronger where that gains, and no weaker than the leaf that it replaces.
+pub record IsMadeAtScale (I : Instance) (old_path : Path) (old : Duals) (path : Path) (d : Duals) : Type 0 where
+  pub served : AreServed I path
+  pub scale : IsMadeScale I d.q
+  pub tame : AreTame I d
+  pub blocked : IsBlocked I path d
+  pub ascent : Duals
+  pub is_plain : IsPlainAscent I path ascent
+  pub plain : IsAtLeast (bound_of I path d) d.q (bound_of I path ascent) ascent.q
+  pub gains : Gains I path ascent → IsGreater (bound_of I path d) d.q (bound_of I path ascent) ascent.q
+  pub replaced : AreTame I old → IsMadeScale I old.q → IsAtLeast (bound_of I path d) d.q (bound_of I old_path old) old.q
+
+-- a leaf made in a box: a ray, which shows the box to be empty, or duals of a scale
+pub record IsMadeLeaf (I : Instance) (old_path : Path) (old : Duals) (path : Path) (d : Duals) : Type 0 where
+  pub fit : DualsFit I d
+  -- at scale 0 it closes, whatever the target is
+  pub ray : d.q ≡ 0 → pos 1 ≤ℤ bound_of I path d
+  pub scaled : 1 ≤ d.q → IsMadeAtScale I old_path old path d
+
+-- Splits.
+
+-- The box needs a split: every customer has an allowed lane, and the plain ascent closes it neither with the target nor with the
+-- cost of the plan that its own tight sites give.
+pub record IsOpenBox (I : Instance) (target : Option ℕ) (path : Path) : Type 0 where
+  pub served : AreServed I path
+  pub ascent : Duals
+  pub is_plain : IsPlainAscent I path ascent
+  pub target_open : IfSome target (λ T. BoundCloses (bound_of I path ascent) ascent.q (Some T) → ⊥)
+  pub packed_open : (P : Plan) → packed I path (tight_sites I path ascent) ≡ Some P → BoundCloses (bound_of I path ascent) ascent.q (Some (cost_of I P)) → ⊥
+
+-- the site of this id is free in the box
+pub record IsFreeSite (I : Instance) (path : Path) (s : ℕ) : Type 0 where
+  pub place : ℕ
+  pub within : place < length I.sites
+  pub named : (site_at I place).id ≡ s
+  pub free : IsTrue (is_free path (site_at I place))
+
+-- The lane may be split on: some site has a capacity, no site is free, the box allows the lane, no decision uses it, and the
+-- customer has another allowed lane.
+pub record IsOpenLane (I : Instance) (path : Path) (s c : ℕ) : Type 0 where
+  pub capacitated : IsTrue (list_any (λ x. is_some x.cap) I.sites)
+  pub none_free : (i : ℕ) → i < length I.sites → IsFalse (is_free path (site_at I i))
+  pub site : ℕ
+  pub customer : ℕ
+  pub site_within : site < length I.sites
+  pub customer_within : customer < length I.customers
+  pub site_named : (site_at I site).id ≡ s
+  pub customer_named : (customer_at I customer).id ≡ c
+  pub allowed : IsTrue (is_allowed I path (site_at I site) (customer_at I customer))
+  pub undecided : Contains path (Yes s c) → ⊥
+  pub others : 1 < length (servers I path customer)
+
+-- the tree was made in the box of this path, below the leaf of the old path and duals
+abbrev pub IsMade : Instance → Option ℕ → Path → Duals → Path → Node → Type 0
+IsMade I target old_path old path (Leaf d) = IsMadeLeaf I old_path old path d
+IsMade I target old_path old path (OnSite s closed opened) =
+    IsOpenBox I target path × IsFreeSite I path s × IsMade I target old_path old (path ++ Closed s ∷ []) closed × IsMade I target old_path old (path ++ Opened s ∷ []) opened
+IsMade I target old_path old path (OnLane s c without using) =
+    IsOpenBox I target path × IsOpenLane I path s c × IsMade I target old_path old (path ++ No s c ∷ []) without × IsMade I target old_path old (path ++ Yes s c ∷ []) using

@@ -1,0 +1,2 @@
+//! The growth of a tree. The definitions are in `specs/`.
+#![tactic(auto)]
