@@ -1,6 +1,6 @@
 -- What a search puts into the place of a leaf that is open: a tree whose leaves are at least as good as the plain ascent's, and
 -- which splits no box that needs no split. The rule is the suite's own.
-use Rattle.std.specs.Prelude.{◌≡◌, ◌≢◌, ◌⊎◌, ℕ, ◌<◌, ◌≤◌, [], ◌∷◌, ◌++◌, length, Contains, Option, Some, IfSome, is_some, IsTrue, IsFalse, ℤ, pos, ◌*ℤ◌, ◌≤ℤ◌, ◌<ℤ◌, if◌then◌else◌}
+use Rattle.std.specs.Prelude.{◌≡◌, ◌≢◌, ◌⊎◌, ℕ, ◌<◌, ◌≤◌, [], ◌∷◌, ◌++◌, length, Contains, Option, Some, IfSome, is_some, IsTrue, IsFalse, pos, ◌≤ℤ◌, if◌then◌else◌}
 use Rattle.std.specs.List.{list_any}
 use Rattle.location_terms.specs.Instance.{Instance, site_at, customer_at}
 use Rattle.location_terms.specs.Plan.{Plan, cost_of}
@@ -12,6 +12,7 @@ use Rattle.location_terms.specs.Tree.{Node, Leaf, OnSite, OnLane}
 use Rattle.location_terms.specs.declared.limits.TheConstants.{MAX_SCALE}
 use Rattle.dual_ascent.specs.Levels.{servers}
 use Rattle.dual_value.specs.Zeros.{zeros}
+use Rattle.dual_value.specs.Scales.{IsAtLeast, IsGreater}
 use Rattle.dual_ascent.specs.Ascent.{IsAscended, IsBlocked}
 use Rattle.dual_adjust.specs.Slackness.{tight_sites}
 use Rattle.dual_adjust.specs.Adjustment.{Gains}
@@ -32,14 +33,6 @@ IsPlainAscent I path d = IsAscended I path (zeros I (plain_scale I)) d
 -- the scales of the leaves that are made: that of the plain ascent, and where no site has a capacity the greatest of all
 abbrev pub IsMadeScale : Instance → ℕ → Type 0
 IsMadeScale I q = (q ≡ plain_scale I) ⊎ ((plain_scale I ≡ 1) × (q ≡ MAX_SCALE))
-
--- b / q is at least c / r, without a division: a bound at scale q against one at scale r
-abbrev pub IsAtLeast : ℤ → ℕ → ℤ → ℕ → Type 0
-IsAtLeast b q c r = (pos q *ℤ c) ≤ℤ (pos r *ℤ b)
-
--- b / q is greater than c / r
-abbrev pub IsGreater : ℤ → ℕ → ℤ → ℕ → Type 0
-IsGreater b q c r = (pos q *ℤ c) <ℤ (pos r *ℤ b)
 
 -- every customer has an allowed lane in the box
 abbrev pub AreServed : Instance → Path → Type 0
