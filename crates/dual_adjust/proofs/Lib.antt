@@ -8,3 +8,4 @@ pub mod PlacesOf
 pub mod LanesPaid
 pub mod Greatest
 pub mod Gained
+pub mod Replaced

@@ -1,9 +1,10 @@
 -- What an adjustment comes to.
-use Rattle.std.specs.Prelude.{◌≡◌, ℕ, ◌<◌, ◌≤◌, Bool, true, false, IsTrue, length, Option, None, Some, ◌≤ℤ◌, ◌<ℤ◌}
+use Rattle.std.specs.Prelude.{◌≡◌, ℕ, ◌<◌, ◌≤◌, Bool, true, false, IsTrue, length, Option, None, Some, ℤ, ◌≤ℤ◌, ◌<ℤ◌}
 use Rattle.location_terms.specs.Instance.{Instance}
 use Rattle.location_terms.specs.Box.{Path}
 use Rattle.location_terms.specs.Bound.{Duals, bound_of}
 use Rattle.location_terms.specs.Fit.{AreTame}
+use Rattle.dual_value.specs.Scales.{IsGreater}
 use Rattle.dual_ascent.specs.Ascent.{IsAscended, IsBlocked}
 use Rattle.dual_adjust.specs.Slackness.{tight_sites, is_violating}
 use Rattle.dual_adjust.specs.Adjustment.{IsCandidate, Gains}
@@ -63,3 +64,8 @@ AreTrials I path d e from (Some next) = (from < next) × (next ≤ length I.cust
 abbrev pub IsRound : Instance → Path → Duals → Duals → Bool → Type 0
 IsRound I path d e true = bound_of I path d <ℤ bound_of I path e
 IsRound I path d e false = (e ≡ d) × (Gains I path d → ⊥)
+
+-- other duals of the same prices took the place of the old ones: they have ascended, and their bound is greater than the one given; or the old ones stay
+abbrev pub IsRiseAbove : Instance → Path → Present → Present → ℤ → ℕ → Bool → Type 0
+IsRiseAbove I path old new bound scale true = IsTried I path old new × IsGreater (bound_of I path new.duals) new.duals.q bound scale
+IsRiseAbove I path old new bound scale false = new ≡ old

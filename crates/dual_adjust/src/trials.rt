@@ -1,20 +1,25 @@
 //! The duals and the arrays of an adjustment.
-ghost use Rattle.std.specs.Prelude.{◌≡◌, ◌<◌, IfOk, length, int_lt};
+ghost use Rattle.std.specs.Prelude.{◌≡◌, ◌<◌, ◌≤◌, ◌↔◌, All, IfOk, IsTrue, length, int_lt, unsigned_abs};
 ghost use Rattle.location_terms.specs.Instance.{IsValid};
 ghost use Rattle.location_terms.specs.Bound.{Duals as Prices, bound_of};
 ghost use Rattle.location_terms.specs.Fit.{AreTame};
+ghost use Rattle.location_terms.specs.declared.limits.TheConstants.{MAX_SCALE, MAX_VALUE};
 ghost use Rattle.lane_order.specs.Order.{IsOrderOf};
+ghost use Rattle.dual_value.specs.Scales.{IsGreater};
 ghost use Rattle.dual_ascent.specs.Ascent.{IsAscended, IsAscendedApart};
 ghost use Rattle.dual_ascent.specs.Kept.{Keeps};
 ghost use Rattle.dual_ascent.specs.Work.{IsWorkFor};
 ghost use Rattle.dual_adjust.specs.Present.{IsStart, HasAscended};
-ghost use Rattle.dual_adjust.specs.Adjusted.{IsTried, IsTrial};
+ghost use Rattle.dual_adjust.specs.Adjusted.{IsTried, IsTrial, IsRiseAbove};
+ghost use Rattle.dual_adjust.specs.Slackness.{tight_sites};
 
 use crate::lowering::lower_level;
+use crate::slackness::is_tight;
 use dual_ascent::{Workspace, ascend_in, ascend_others_in};
-use dual_value::{Duals, PreparedBox, bound_from};
+use dual_value::{Duals, MAX_BOUND, PreparedBox, bound_from, is_greater};
 use instance_store::{Instance, NoMemory};
 use lane_order::LaneOrder;
+use location_terms::SiteId;
 use std::alloc::Global;
 use std::marker::Model;
 use std::mem;
@@ -84,7 +89,7 @@ impl Trials {
     }
 
     /// Lets the present duals rise by the ascent over all customers.
-    pub(crate) fn ascend(&mut self, boxed: &PreparedBox<'_>, order: &LaneOrder)
+    pub fn ascend(&mut self, boxed: &PreparedBox<'_>, order: &LaneOrder)
         requires order { IsOrderOf order.now boxed.now.instance }
         requires start { IsStart boxed.now.instance self.old }
         ensures ascended { IsAscended boxed.now.instance boxed.now.path self.old.duals self.new.duals }
@@ -99,12 +104,64 @@ impl Trials {
         );
     }
 
-    /// The bound of the box at the present duals.
-    pub(crate) fn bound(&self, boxed: &PreparedBox<'_>) -> i128
+    /// The bound of the box at the present duals, in millionths times their scale.
+    pub fn bound(&self, boxed: &PreparedBox<'_>) -> i128
         requires { HasAscended boxed.now.instance boxed.now.path self.now }
-        ensures { result ≡ bound_of boxed.now.instance boxed.now.path self.now.duals }
+        ensures exact { result ≡ bound_of boxed.now.instance boxed.now.path self.now.duals }
+        ensures small { unsigned_abs result ≤ MAX_BOUND }
     {
         bound_from(boxed, &self.present.duals, self.present.work.slacks())
+    }
+
+    /// The tight sites of the box at the present duals, in the order of the instance, by the slacks that
+    /// are kept. It fails only where memory runs out.
+    pub fn tight_sites(
+        &self,
+        alloc: Global,
+        boxed: &PreparedBox<'_>,
+    ) -> Result<Vec<SiteId>, NoMemory>
+        requires { HasAscended boxed.now.instance boxed.now.path self.now }
+        ensures { IfOk result (λ sites. sites.items ≡ tight_sites boxed.now.instance boxed.now.path self.now.duals) }
+    {
+        tight(alloc, boxed, &self.present)
+    }
+
+    /// Takes over the duals of the customers from others, which are for as many customers. They haven't
+    /// ascended then.
+    pub fn copy_values(&mut self, other: &Duals)
+        requires { length other.now.v ≡ length self.old.duals.v }
+        ensures duals { self.new.duals ≡ record self.old.duals { v = other.now.v } }
+        ensures work { self.new.work ≡ self.old.work }
+    {
+        self.present.duals.copy_values(other);
+    }
+
+    /// Lets duals of these values rise, with the prices and the scale of the present ones, in whose
+    /// fraction of a millionth the values are: whether the bound is then greater than `bound` at scale
+    /// `scale`. The duals so found become the present ones only if it is. It takes no memory.
+    pub fn rises_from(
+        &mut self,
+        boxed: &PreparedBox<'_>,
+        order: &LaneOrder,
+        values: &[i64],
+        bound: i128,
+        scale: u32,
+    ) -> bool
+        requires order { IsOrderOf order.now boxed.now.instance }
+        requires start { IsStart boxed.now.instance self.old }
+        requires long { length values.now ≡ length boxed.now.instance.customers }
+        requires small { unsigned_abs bound ≤ MAX_BOUND }
+        requires scaled { 1 ≤ scale }
+        requires scale { scale ≤ MAX_SCALE }
+        ensures { IsRiseAbove boxed.now.instance boxed.now.path self.old self.new bound scale result }
+    {
+        set_values(&mut self.trial.duals, values);
+        ascend_in(boxed, order, &mut self.trial.work, &mut self.trial.duals);
+        if !is_better(boxed, &self.trial, bound, scale) {
+            return false;
+        }
+        mem::swap(&mut self.present, &mut self.trial);
+        true
     }
 
     /// Lowers the dual of the customer at place `cust`, where it pays more than one tight site, and lets
@@ -153,12 +210,63 @@ fn with_arrays(alloc: Global, inst: &Instance, duals: Duals) -> Result<Ascended,
     Ok(Ascended { duals, work })
 }
 
+// The tight sites of the box at these duals.
+fn tight(
+    alloc: Global,
+    boxed: &PreparedBox<'_>,
+    ascended: &Ascended,
+) -> Result<Vec<SiteId>, NoMemory>
+    requires { HasAscended boxed.now.instance boxed.now.path (record { duals = ascended.now.duals; work = ascended.now.work }) }
+    ensures { IfOk result (λ sites. sites.items ≡ tight_sites boxed.now.instance boxed.now.path ascended.now.duals) }
+{
+    let inst = boxed.instance();
+    let slacks = ascended.work.slacks();
+    let mut sites = Vec::new(alloc);
+    for site in 0..inst.sites() {
+        if is_tight(boxed, site, slacks[site]) {
+            sites.push(inst.site_id(site))?;
+        }
+    }
+    Ok(sites)
+}
+
 // Whether the bound of the box at these duals is greater than this one.
 fn is_above(boxed: &PreparedBox<'_>, ascended: &Ascended, bound: i128) -> bool
     requires { HasAscended boxed.now.instance boxed.now.path (record { duals = ascended.now.duals; work = ascended.now.work }) }
     ensures { result ≡ int_lt bound (bound_of boxed.now.instance boxed.now.path ascended.now.duals) }
 {
     bound < bound_from(boxed, &ascended.duals, ascended.work.slacks())
+}
+
+// Whether the bound of the box at these duals is greater than this one at this scale.
+fn is_better(boxed: &PreparedBox<'_>, ascended: &Ascended, bound: i128, scale: u32) -> bool
+    requires ascended { HasAscended boxed.now.instance boxed.now.path (record { duals = ascended.now.duals; work = ascended.now.work }) }
+    requires small { unsigned_abs bound ≤ MAX_BOUND }
+    requires scaled { 1 ≤ scale }
+    requires scale { scale ≤ MAX_SCALE }
+    ensures { IsTrue result ↔ IsGreater (bound_of boxed.now.instance boxed.now.path ascended.now.duals) ascended.now.duals.q bound scale }
+{
+    let found = bound_from(boxed, &ascended.duals, ascended.work.slacks());
+    is_greater(found, ascended.duals.q(), bound, scale)
+}
+
+// Replaces the duals of all customers by these values, which are small enough to be tame.
+fn set_values(duals: &mut Duals, values: &[i64])
+    requires { length values.now ≡ length duals.old.v }
+    ensures kept { duals.new ≡ record duals.old { v = duals.new.v } }
+    ensures long { length duals.new.v ≡ length duals.old.v }
+    ensures small { All (λ v. unsigned_abs v ≤ MAX_VALUE) duals.new.v }
+{
+    for cust in 0..values.len() {
+        duals.set_v(cust, widened(values[cust]));
+    }
+}
+
+fn widened(value: i64) -> i128
+    ensures exact { result ≡ value }
+    ensures small { unsigned_abs result ≤ MAX_VALUE }
+{
+    i128::from(value)
 }
 
 // Lets the duals rise, those of all customers but one first, and then all.
