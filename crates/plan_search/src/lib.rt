@@ -2,19 +2,26 @@
 //! definitions are in `specs/`, and what follows from them is the law `packed_plans`.
 #![tactic(auto)]
 
+mod caps;
+mod changes;
 mod chosen;
+mod exchanges;
 mod flags;
 mod known;
 mod lanes;
 mod laws;
 mod local;
 mod packing;
+mod prospects;
 mod seeking;
+mod serving;
 mod turns;
 
+pub use caps::has_no_caps;
 pub use known::is_path_of;
 pub use laws::packed_plans;
-pub use seeking::{best_in, best_seen, improved_in, packed_in};
+pub use local::LocalSearch;
+pub use seeking::{best_in, best_seen, improved_in, improved_set, improved_with, packed_in};
 
 #[cfg(test)]
 mod tests;

@@ -1,5 +1,5 @@
 //! Good plans in a box.
-ghost use Rattle.std.specs.Prelude.{◌≡◌, ◌⊎◌, ◌≤◌, length, IfOk, IfSome};
+ghost use Rattle.std.specs.Prelude.{◌≡◌, ◌⊎◌, ◌≤◌, IfOk, IfSome};
 ghost use Rattle.location_terms.specs.Instance.{IsValid};
 ghost use Rattle.location_terms.specs.Plan.{IsFeasible, cost_of};
 ghost use Rattle.location_terms.specs.Box.{IsInBox};
@@ -7,8 +7,9 @@ ghost use Rattle.lane_order.specs.Order.{IsOrderOf};
 ghost use Rattle.plan_search.specs.InBox.{IsPathOf, HasNoCaps, SettlesSites, IsNoWorse, IsBestIn};
 ghost use Rattle.plan_search.specs.Packed.{packed};
 
-use crate::local::improve;
-use crate::packing::{open_sites, pack};
+use crate::caps::has_no_caps;
+use crate::local::LocalSearch;
+use crate::packing::pack;
 use dual_value::{Path, PreparedBox};
 use instance_store::{Instance, NoMemory, SiteId};
 use lane_order::LaneOrder;
@@ -95,34 +96,68 @@ pub fn improved_in(
     ensures in_box { IfOk result (λ better. IsInBox better boxed.now.path) }
     ensures cost { IfOk result (λ better. cost_of boxed.now.instance better ≤ cost_of boxed.now.instance plan) }
 {
+    let mut work = LocalSearch::of(alloc, boxed.instance())?;
+    improved_with(alloc, boxed, order, &mut work, plan)
+}
+
+/// The same in arrays that are made before.
+pub fn improved_with(
+    alloc: Global,
+    boxed: &PreparedBox,
+    order: &LaneOrder,
+    work: &mut LocalSearch,
+    plan: Plan,
+) -> Result<Plan, NoMemory>
+    requires order { IsOrderOf order.now boxed.now.instance }
+    requires path { IsPathOf boxed.now.instance boxed.now.path }
+    requires feasible { IsFeasible boxed.now.instance plan }
+    requires in_box { IsInBox plan boxed.now.path }
+    ensures feasible { IfOk result (IsFeasible boxed.now.instance) }
+    ensures in_box { IfOk result (λ better. IsInBox better boxed.now.path) }
+    ensures cost { IfOk result (λ better. cost_of boxed.now.instance better ≤ cost_of boxed.now.instance plan) }
+{
     if !has_no_caps(boxed.instance()) {
         return Ok(plan);
     }
-    let hint = better_sites(alloc, boxed, order, &plan)?;
+    let flags = plan_flags(alloc, boxed.instance(), &plan)?;
+    work.search(boxed, order, &flags)?;
+    if !costs_more(boxed.instance(), &plan, work.cost()) {
+        return Ok(plan);
+    }
+    let hint = work.open_sites(alloc, boxed.instance())?;
     match packed_in(alloc, boxed, order, &hint)? {
         None => Ok(plan),
         Some(other) => Ok(cheaper(boxed.instance(), plan, other)),
     }
 }
 
-// The sites of a set that may cost less than the plan's.
-fn better_sites(
+/// A plan in the box that is sought from a set of open sites: the free sites that are flagged, by place,
+/// and those that are opened in the box. Where no site has a capacity, sites are opened, closed and
+/// exchanged from there while that saves. The plan is what is packed for the set. Where no plan is packed,
+/// none is given. It is for sets of any size: too few or too many open sites are brought within the
+/// instance's count.
+///
+/// It fails only where memory runs out.
+pub fn improved_set(
     alloc: Global,
     boxed: &PreparedBox,
     order: &LaneOrder,
-    plan: &Plan,
-) -> Result<Vec<SiteId>, NoMemory>
-    requires { IsOrderOf order.now boxed.now.instance }
+    work: &mut LocalSearch,
+    flags: &[bool],
+) -> Result<Option<Plan>, NoMemory>
+    requires order { IsOrderOf order.now boxed.now.instance }
+    requires path { IsPathOf boxed.now.instance boxed.now.path }
+    ensures feasible { IfOk result (λ plan. IfSome plan (IsFeasible boxed.now.instance)) }
+    ensures in_box { IfOk result (λ plan. IfSome plan (λ P. IsInBox P boxed.now.path)) }
+    ensures cheapest { HasNoCaps boxed.now.instance → SettlesSites boxed.now.instance boxed.now.path → IfOk result (IsBestIn boxed.now.instance boxed.now.path) }
 {
-    let mut flags = plan_flags(alloc, boxed.instance(), plan)?;
-    improve(alloc, boxed, order, &mut flags)?;
-    open_sites(alloc, boxed.instance(), &flags)
+    work.search(boxed, order, flags)?;
+    let hint = work.open_sites(alloc, boxed.instance())?;
+    packed_in(alloc, boxed, order, &hint)
 }
 
 // The open sites of the plan, by place.
-fn plan_flags(alloc: Global, inst: &Instance, plan: &Plan) -> Result<Vec<bool>, NoMemory>
-    ensures { IfOk result (λ flags. length flags.items ≡ length inst.now.sites) }
-{
+fn plan_flags(alloc: Global, inst: &Instance, plan: &Plan) -> Result<Vec<bool>, NoMemory> {
     let mut flags = Vec::with_capacity(alloc, inst.sites())?;
     for site in 0..inst.sites() {
         flags.push(plan.opens(inst.site_id(site)))?;
@@ -130,13 +165,12 @@ fn plan_flags(alloc: Global, inst: &Instance, plan: &Plan) -> Result<Vec<bool>, 
     Ok(flags)
 }
 
-fn has_no_caps(inst: &Instance) -> bool {
-    for site in 0..inst.sites() {
-        if inst.cap(site).is_some() {
-            return false;
-        }
-    }
-    true
+// Whether the feasible plan costs more than this.
+fn costs_more(inst: &Instance, plan: &Plan, limit: u64) -> bool
+    requires { IsFeasible inst.now plan.now }
+{
+    let _sites = inst.sites();
+    cost(inst, plan) > limit
 }
 
 // The one of two feasible plans that costs less, and the first where they cost the same.

@@ -1,10 +1,11 @@
 ghost use Rattle.std.specs.Prelude.{◌≤◌, IfOk};
+ghost use Rattle.location_terms.specs.declared.limits.TheConstants.{MAX_AMOUNT};
 
 use super::*;
-use dual_value::Path;
+use dual_value::{Path, PreparedBox};
 use instance_store::{CustId, CustRow, Instance, LaneRow, NoMemory, SiteId, SiteRow, SiteStatus};
 use lane_order::LaneOrder;
-use location_terms::Decision;
+use location_terms::{Decision, MAX_AMOUNT};
 use plan_meaning::Plan;
 use std::alloc::Global;
 use std::test::Fail;
@@ -77,27 +78,30 @@ fn is_plan(plan: &Plan, sites: &[u32], from: &[u32]) -> bool {
         && (0..from.len()).all(|k| plan.serve(k).1.number() == from[k])
 }
 
-// Three places on a road, 4 and 7 apart. One site is to be open, which serves the customers at all three.
-fn road(alloc: Global) -> Result<Instance, NoMemory> {
+// Three places on a road, 4 and 7 apart, with a site and a customer each. At least one site is to be open.
+fn road(alloc: Global, hi: u32, fixed: u64) -> Result<Instance, NoMemory>
+    requires count { (1 ≤ hi) × (hi ≤ 3) }
+    requires fixed { fixed ≤ MAX_AMOUNT }
+{
     let left = LaneRow::from_slice(alloc, &[Some(0), Some(4_000_000), Some(11_000_000)])?;
     let middle = LaneRow::from_slice(alloc, &[Some(4_000_000), Some(0), Some(7_000_000)])?;
     let right = LaneRow::from_slice(alloc, &[Some(11_000_000), Some(7_000_000), Some(0)])?;
     let sites = vec![in alloc;
         SiteRow {
             id: SiteId::new(1),
-            fixed: 0,
+            fixed,
             cap: None,
             lanes: left
         },
         SiteRow {
             id: SiteId::new(2),
-            fixed: 0,
+            fixed,
             cap: None,
             lanes: middle
         },
         SiteRow {
             id: SiteId::new(3),
-            fixed: 0,
+            fixed,
             cap: None,
             lanes: right
         },
@@ -116,7 +120,7 @@ fn road(alloc: Global) -> Result<Instance, NoMemory> {
             demand: 0
         },
     ]?;
-    Instance::from_parts(alloc, 1, 1, 4, 4, custs, sites)
+    Instance::from_parts(alloc, 1, hi, 4, 4, custs, sites)
 }
 
 // What is seen in the box of these steps for this hint, where the steps name sites and customers of
@@ -155,6 +159,40 @@ fn is_seen(
 fn is_none_seen(alloc: Global, inst: &Instance, steps: &[Decision], hint: &[u32]) -> bool {
     match seen(alloc, inst, steps, hint) {
         Ok(Some(None)) => true,
+        _ => false,
+    }
+}
+
+// What is sought in the box of these steps from these flags, where the steps name sites and customers of
+// the instance.
+fn sought(
+    alloc: Global,
+    inst: &Instance,
+    steps: &[Decision],
+    flags: &[bool],
+) -> Result<Option<Option<Plan>>, NoMemory> {
+    let order = LaneOrder::of(alloc, inst)?;
+    let path = path(alloc, steps)?;
+    if !is_path_of(inst, &path) {
+        return Ok(None);
+    }
+    let boxed = PreparedBox::of(alloc, inst, &path)?;
+    let mut work = LocalSearch::of(alloc, inst)?;
+    let plan = improved_set(alloc, &boxed, &order, &mut work, flags)?;
+    Ok(Some(plan))
+}
+
+// Whether that is the plan that opens these sites and serves the customers from these, in order.
+fn is_sought(
+    alloc: Global,
+    inst: &Instance,
+    steps: &[Decision],
+    flags: &[bool],
+    sites: &[u32],
+    from: &[u32],
+) -> bool {
+    match sought(alloc, inst, steps, flags) {
+        Ok(Some(Some(plan))) => is_plan(&plan, sites, from),
         _ => false,
     }
 }
@@ -232,7 +270,40 @@ fn keeps_to_statuses(rt: HostRuntime) -> Result<(), Fail> {
 #[test]
 fn exchanges_the_site_that_is_open(rt: HostRuntime) -> Result<(), Fail> {
     let alloc = rt.alloc();
-    let inst = road(alloc)?;
+    let inst = road(alloc, 1, 0)?;
     assert!(rt; is_seen(alloc, &inst, &[], &[], &[2], &[2, 2, 2]));
+    Ok(())
+}
+
+// No site can be closed alone, and opening one more costs more than it saves.
+#[test]
+fn exchanges_where_no_single_change_saves(rt: HostRuntime) -> Result<(), Fail> {
+    let alloc = rt.alloc();
+    let inst = road(alloc, 3, 20_000_000)?;
+    assert!(rt; has_no_caps(&inst));
+    assert!(rt; is_sought(alloc, &inst, &[], &[true, false, false], &[2], &[2, 2, 2]));
+    assert!(rt; is_sought(alloc, &inst, &[], &[false, false, true], &[2], &[2, 2, 2]));
+    assert!(rt; is_sought(alloc, &inst, &[], &[true, true, true], &[2], &[2, 2, 2]));
+    assert!(rt; is_sought(alloc, &inst, &[], &[], &[2], &[2, 2, 2]));
+    let site = SiteId::new(2);
+    assert!(rt;
+        is_sought(
+            alloc,
+            &inst,
+            &[Decision::Closed(site)],
+            &[false, true, true],
+            &[1],
+            &[1, 1, 1]
+        )
+    );
+    Ok(())
+}
+
+#[test]
+fn packs_a_set_as_it_is_where_there_are_capacities(rt: HostRuntime) -> Result<(), Fail> {
+    let alloc = rt.alloc();
+    let inst = shelves(alloc)?;
+    assert!(rt; !has_no_caps(&inst));
+    assert!(rt; is_sought(alloc, &inst, &[], &[true, true, false], &[1, 2], &[1, 2, 1]));
     Ok(())
 }

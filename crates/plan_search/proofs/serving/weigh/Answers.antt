@@ -1,7 +1,7 @@
 use Rattle.std.proofs.Common.{ap}
 use Rattle.std.specs.Prelude.{is_some}
 use Rattle.lane_order.proofs.Walks.{placed_is_lane}
-use Rattle.plan_search.proofs.local.serving_cost.Goals as goal
+use Rattle.plan_search.proofs.serving.weigh.Goals as goal
 
 pub admits-requires-clause-lane : goal.admits-requires-clause-lane
 admits-requires-clause-lane c =

@@ -1,0 +1,184 @@
+//! Sites that open and close: the customers that this touches, and what they count for at the sites.
+ghost use Rattle.std.specs.Prelude.{◌≡◌, ◌<◌, length};
+ghost use Rattle.lane_order.specs.Order.{IsOrderOf};
+
+use crate::prospects::{Nearest, Prospect};
+use dual_value::PreparedBox;
+use lane_order::LaneOrder;
+use location_terms::MAX_AMOUNT;
+
+// What a customer counts for that no open site serves: more than any lane costs.
+const UNSERVED: u64 = MAX_AMOUNT + 1;
+
+/// Finds what each customer counts for where these sites are open.
+pub(crate) fn serve_all(
+    boxed: &PreparedBox,
+    order: &LaneOrder,
+    sites: &mut [Prospect],
+    custs: &mut [Nearest],
+)
+    requires order { IsOrderOf order.now boxed.now.instance }
+    requires sites { length sites.old ≡ length boxed.now.instance.sites }
+    requires custs { length custs.old ≡ length boxed.now.instance.customers }
+    ensures sites { length sites.new ≡ length sites.old }
+    ensures custs { length custs.new ≡ length custs.old }
+{
+    for cust in 0..custs.len() {
+        let near = nearest(boxed, order, sites, cust);
+        weigh(boxed, order, sites, cust, &near, true);
+        custs[cust] = near;
+    }
+}
+
+/// Opens the site at place `site`.
+pub(crate) fn open(
+    boxed: &PreparedBox,
+    order: &LaneOrder,
+    sites: &mut [Prospect],
+    custs: &mut [Nearest],
+    site: usize,
+)
+    requires order { IsOrderOf order.now boxed.now.instance }
+    requires sites { length sites.old ≡ length boxed.now.instance.sites }
+    requires custs { length custs.old ≡ length boxed.now.instance.customers }
+    requires site { site < length boxed.now.instance.sites }
+    ensures sites { length sites.new ≡ length sites.old }
+    ensures custs { length custs.new ≡ length custs.old }
+{
+    sites[site].is_open = true;
+    sites[site].is_changed = true;
+    for cust in 0..boxed.instance().custs() {
+        if let Some(cost) = cost_below(boxed, site, cust, custs[cust].second) {
+            let near = custs[cust].with(site as u32, cost);
+            replace(boxed, order, sites, custs, cust, &near);
+        }
+    }
+}
+
+/// Closes the site at place `site`.
+pub(crate) fn close(
+    boxed: &PreparedBox,
+    order: &LaneOrder,
+    sites: &mut [Prospect],
+    custs: &mut [Nearest],
+    site: usize,
+)
+    requires order { IsOrderOf order.now boxed.now.instance }
+    requires sites { length sites.old ≡ length boxed.now.instance.sites }
+    requires custs { length custs.old ≡ length boxed.now.instance.customers }
+    requires site { site < length boxed.now.instance.sites }
+    ensures sites { length sites.new ≡ length sites.old }
+    ensures custs { length custs.new ≡ length custs.old }
+{
+    sites[site].is_open = false;
+    for cust in 0..custs.len() {
+        if custs[cust].has(site) {
+            let near = nearest(boxed, order, sites, cust);
+            replace(boxed, order, sites, custs, cust, &near);
+        }
+    }
+}
+
+// The cost of the lane from the site to the customer, where it is below this and the box admits it.
+fn cost_below(boxed: &PreparedBox, site: usize, cust: usize, limit: u64) -> Option<u64>
+    requires site { site < length boxed.now.instance.sites }
+    requires customer { cust < length boxed.now.instance.customers }
+{
+    let inst = boxed.instance();
+    match inst.lane(site, cust) {
+        Some(cost) if cost < limit && boxed.admits(site, cust, inst.demand(cust)) => Some(cost),
+        _ => None,
+    }
+}
+
+// Puts these sites in the place of the customer's nearest ones.
+fn replace(
+    boxed: &PreparedBox,
+    order: &LaneOrder,
+    sites: &mut [Prospect],
+    custs: &mut [Nearest],
+    cust: usize,
+    near: &Nearest,
+)
+    requires order { IsOrderOf order.now boxed.now.instance }
+    requires sites { length sites.old ≡ length boxed.now.instance.sites }
+    requires custs { length custs.old ≡ length boxed.now.instance.customers }
+    requires customer { cust < length boxed.now.instance.customers }
+    ensures sites { length sites.new ≡ length sites.old }
+    ensures custs { length custs.new ≡ length custs.old }
+{
+    weigh(boxed, order, sites, cust, &custs[cust], false);
+    weigh(boxed, order, sites, cust, near, true);
+    custs[cust] = *near;
+}
+
+// The customer's nearest two open sites.
+fn nearest(boxed: &PreparedBox, order: &LaneOrder, sites: &[Prospect], cust: usize) -> Nearest
+    requires order { IsOrderOf order.now boxed.now.instance }
+    requires sites { length sites.now ≡ length boxed.now.instance.sites }
+    requires customer { cust < length boxed.now.instance.customers }
+{
+    let demand = boxed.instance().demand(cust);
+    let mut near = Nearest::none(UNSERVED);
+    for lane in order.lanes(cust) {
+        let site = lane.site as usize;
+        if sites[site].is_open && boxed.admits(site, cust, demand) {
+            near = near.with(lane.site, lane.cost);
+            if near.second_site.is_some() {
+                return near;
+            }
+        }
+    }
+    near
+}
+
+// Adds what the customer counts for at the sites, or takes it off: at its nearest open site how much more
+// the second one costs, and at each site that costs less than the nearest how much less that is.
+fn weigh(
+    boxed: &PreparedBox,
+    order: &LaneOrder,
+    sites: &mut [Prospect],
+    cust: usize,
+    near: &Nearest,
+    adds: bool,
+)
+    requires order { IsOrderOf order.now boxed.now.instance }
+    requires sites { length sites.old ≡ length boxed.now.instance.sites }
+    requires customer { cust < length boxed.now.instance.customers }
+    ensures { length sites.new ≡ length sites.old }
+{
+    weigh_nearest(sites, near, adds);
+    let demand = boxed.instance().demand(cust);
+    for lane in order.lanes(cust) {
+        if lane.cost >= near.cost {
+            return;
+        }
+        let site = lane.site as usize;
+        if boxed.admits(site, cust, demand) {
+            sites[site].lanes = changed(sites[site].lanes, near.cost - lane.cost, adds);
+        }
+    }
+}
+
+fn weigh_nearest(sites: &mut [Prospect], near: &Nearest, adds: bool)
+    ensures { length sites.new ≡ length sites.old }
+{
+    if let Some(place) = near.site {
+        let site = place as usize;
+        if site < sites.len() {
+            let more = near.second.saturating_sub(near.cost);
+            sites[site].lanes = changed(sites[site].lanes, more, adds);
+            sites[site].is_changed = true;
+        }
+    }
+}
+
+// What was added is taken off again, so that no sum is above that of all customers or below 0.
+#[inline(always)]
+fn changed(sum: u64, amount: u64, adds: bool) -> u64 {
+    if adds {
+        sum.wrapping_add(amount)
+    } else {
+        sum.wrapping_sub(amount)
+    }
+}
