@@ -1,0 +1,146 @@
+//! Steps to exactly the cost of a plan, in boxes where the bound may come up to it.
+ghost use Rattle.std.specs.Prelude.{◌≡◌, ◌<◌, length, IfOk};
+ghost use Rattle.dual_steps.specs.Sizes.{Suits};
+
+use crate::Steps;
+use crate::customer::{FLAT, recall_within, step_ahead, turn};
+use crate::payers::{Payers, sweep};
+use crate::paying::{fill_limits, widen_limits};
+use crate::site::is_within;
+use crate::snapping::{set_aside, snap_to};
+use instance_store::NoMemory;
+use lane_order::LaneOrder;
+use std::alloc::Global;
+
+// Sweeps go on where so many of them take off at least a tenth of what is left.
+const REVIEW: u32 = 100;
+
+// Fractions of the costs' unit on which duals of a vertex stand, and how far from them they are looked
+// for, in parts of what is left.
+const FRACTIONS: [f64; 8] = [1.0, 2.0, 3.0, 4.0, 5.0, 6.0, 8.0, 12.0];
+
+const REACHES: [f64; 4] = [1.0, 4.0, 20.0, 100.0];
+
+impl Steps {
+    /// Refers to a plan by its open sites: where it is in the box, the steps to a cost keep each dual
+    /// between the costs of the customer's first and second lane from them. Whether it is in the box.
+    pub fn refer_to(&mut self, order: &LaneOrder, open: &[bool]) -> bool
+        requires sizes { Suits self.old order.now }
+        requires open { length open.now ≡ self.old.sites }
+        ensures { self.new ≡ self.old }
+    {
+        self.plan.copy_from_slice(open);
+        self.is_plan_within = is_within(&self.sites, &self.plan);
+        if self.is_plan_within {
+            fill_limits(order, &self.plan, &mut self.customers);
+        } else {
+            widen_limits(&mut self.customers);
+        }
+        self.is_plan_within
+    }
+
+    /// Takes steps to a bound of exactly `target` millionths, up to so many.
+    pub fn polyak(&mut self, order: &LaneOrder, target: f64, steps: u32)
+        requires { Suits self.old order.now }
+        ensures { self.new ≡ self.old }
+    {
+        recall_within(&mut self.customers);
+        self.evaluate(order);
+        self.keep_better();
+        for _step in 0..steps {
+            if self.reaches(target) {
+                return;
+            }
+            let squares = turn(&mut self.customers);
+            if squares < FLAT {
+                return;
+            }
+            let stride = (target - self.bound + 1.0) / squares;
+            step_ahead(&mut self.customers, stride);
+            self.evaluate(order);
+            self.keep_better();
+        }
+    }
+
+    /// Mends the slacks of the sites one after the other, up to so many times, so that they fit the plan
+    /// that is referred to. It does nothing where that isn't in the box, and fails only where memory
+    /// runs out.
+    pub fn project(
+        &mut self,
+        alloc: Global,
+        order: &LaneOrder,
+        target: f64,
+        sweeps: u32,
+    ) -> Result<(), NoMemory>
+        requires { Suits self.old order.now }
+        ensures { self.new ≡ self.old }
+    {
+        if !self.is_plan_within || self.reaches(target) {
+            return Ok(());
+        }
+        recall_within(&mut self.customers);
+        self.evaluate(order);
+        self.keep_better();
+        let payers = Payers::of(alloc, order, &self.customers, self.sites.len())?;
+        self.sweep_all(order, &payers, target, sweeps);
+        Ok(())
+    }
+
+    fn sweep_all(&mut self, order: &LaneOrder, payers: &Payers, target: f64, sweeps: u32)
+        requires { Suits self.old order.now }
+        ensures { self.new ≡ self.old }
+    {
+        let mut mark = self.best_bound;
+        for turn in 0..sweeps {
+            if self.reaches(target) {
+                return;
+            }
+            sweep(
+                payers,
+                &self.sites,
+                &self.plan,
+                self.extra,
+                &mut self.customers,
+            );
+            self.evaluate(order);
+            self.keep_better();
+            if turn % REVIEW == REVIEW - 1 {
+                if self.best_bound - mark < 0.1 * (target - mark) {
+                    return;
+                }
+                mark = self.best_bound;
+            }
+        }
+    }
+
+    /// Puts duals that are near fractions of the costs' unit onto them, and keeps what raises the bound.
+    pub fn snap(&mut self, order: &LaneOrder, target: f64)
+        requires { Suits self.old order.now }
+        ensures { self.new ≡ self.old }
+    {
+        let unit = self.cost_unit(order);
+        if unit < 1.0 {
+            return;
+        }
+        set_aside(&mut self.customers);
+        let left = target - self.best_bound;
+        for reach in 0..REACHES.len() {
+            self.snap_within(order, target, unit, REACHES[reach] * (left + 2.0));
+        }
+    }
+
+    fn snap_within(&mut self, order: &LaneOrder, target: f64, unit: f64, reach: f64)
+        requires { Suits self.old order.now }
+        ensures { self.new ≡ self.old }
+    {
+        for fraction in 0..FRACTIONS.len() {
+            if self.reaches(target) {
+                return;
+            }
+            let part = unit / FRACTIONS[fraction];
+            snap_to(&mut self.customers, part, reach.min(part / 20.0));
+            self.evaluate(order);
+            self.keep_better();
+        }
+    }
+}

@@ -1,0 +1,251 @@
+//! Which customers may pay which sites, and sweeps that mend one slack after the other.
+ghost use Rattle.std.specs.Prelude.{◌≡◌, ◌<◌, ◌≤◌, length};
+
+use crate::customer::Customer;
+use crate::site::Site;
+use dual_value::SiteState;
+use instance_store::NoMemory;
+use lane_order::LaneOrder;
+use std::alloc::Global;
+use std::num::nearest_u64_to_f64;
+
+// A customer that may pay a site, and what its lane from there costs.
+#[derive(Clone, Copy)]
+struct Payer {
+    customer: usize,
+    cost: f64,
+}
+
+/// For each site the customers whose greatest dual is above the cost of their lane from there.
+#[derive(Drop)]
+pub(crate) struct Payers {
+    // By site, where its customers end; they begin where those of the site before end.
+    ends: Vec<usize>,
+    payers: Vec<Payer>,
+}
+
+impl Payers {
+    /// The customers that may pay each site between their limits. It fails only where memory runs out.
+    pub(crate) fn of(
+        alloc: Global,
+        order: &LaneOrder,
+        customers: &[Customer],
+        sites: usize,
+    ) -> Result<Payers, NoMemory>
+        requires customers { length customers.now ≡ length order.now.lanes }
+    {
+        let mut ends = vec![in alloc; 0; sites]?;
+        let all = count_payers(order, customers, &mut ends);
+        let none = Payer {
+            customer: 0,
+            cost: 0.0,
+        };
+        let mut payers = vec![in alloc; none; all]?;
+        place_payers(order, customers, &mut ends, &mut payers);
+        Ok(Payers { ends, payers })
+    }
+
+    // The customers that may pay the site.
+    fn of_site(&self, site: usize) -> &[Payer] {
+        let end = match self.ends.get(site) {
+            None => return &[],
+            Some(end) => *end,
+        };
+        let start = if site == 0 { 0 } else { self.end_before(site) };
+        self.payers.get(start..end).unwrap_or(&[])
+    }
+
+    fn end_before(&self, site: usize) -> usize
+        requires { 0 < site }
+    {
+        match self.ends.get(site - 1) {
+            None => 0,
+            Some(end) => *end,
+        }
+    }
+}
+
+// Counts the customers of each site, and then lets each count be where the site's customers start.
+// The answer is how many there are in all.
+fn count_payers(order: &LaneOrder, customers: &[Customer], ends: &mut [usize]) -> usize
+    requires customers { length customers.now ≡ length order.now.lanes }
+    ensures { length ends.new ≡ length ends.old }
+{
+    for j in 0..customers.len() {
+        count_lanes(order, j, customers[j].high, ends);
+    }
+    add_up(ends)
+}
+
+fn count_lanes(order: &LaneOrder, j: usize, high: f64, ends: &mut [usize])
+    requires customer { j < length order.now.lanes }
+    ensures { length ends.new ≡ length ends.old }
+{
+    for lane in order.lanes(j) {
+        if high < nearest_u64_to_f64(lane.cost) {
+            return;
+        }
+        let site = lane.site as usize;
+        if site < ends.len() {
+            ends[site] = ends[site].saturating_add(1);
+        }
+    }
+}
+
+fn add_up(ends: &mut [usize]) -> usize
+    ensures { length ends.new ≡ length ends.old }
+{
+    let mut sum = 0usize;
+    for i in 0..ends.len() {
+        let count = ends[i];
+        ends[i] = sum;
+        sum = sum.saturating_add(count);
+    }
+    sum
+}
+
+// Puts each customer to its sites. Where a site's customers start becomes where they end.
+fn place_payers(order: &LaneOrder, customers: &[Customer], ends: &mut [usize], payers: &mut [Payer])
+    requires customers { length customers.now ≡ length order.now.lanes }
+    ensures ends { length ends.new ≡ length ends.old }
+    ensures payers { length payers.new ≡ length payers.old }
+{
+    for j in 0..customers.len() {
+        place_lanes(order, j, customers[j].high, ends, payers);
+    }
+}
+
+fn place_lanes(order: &LaneOrder, j: usize, high: f64, ends: &mut [usize], payers: &mut [Payer])
+    requires customer { j < length order.now.lanes }
+    ensures ends { length ends.new ≡ length ends.old }
+    ensures payers { length payers.new ≡ length payers.old }
+{
+    for lane in order.lanes(j) {
+        let cost = nearest_u64_to_f64(lane.cost);
+        if high < cost {
+            return;
+        }
+        place(
+            lane.site as usize,
+            Payer { customer: j, cost },
+            ends,
+            payers,
+        );
+    }
+}
+
+fn place(site: usize, payer: Payer, ends: &mut [usize], payers: &mut [Payer])
+    ensures ends { length ends.new ≡ length ends.old }
+    ensures payers { length payers.new ≡ length payers.old }
+{
+    if site < ends.len() && ends[site] < payers.len() {
+        payers[ends[site]] = payer;
+        ends[site] += 1;
+    }
+}
+
+/// Mends the slack of each free site once: those of the plan's sites from above 0, those of the others
+/// from below 0, each by the same change of all customers that can make it. Sites cost so much `extra`.
+pub(crate) fn sweep(
+    payers: &Payers,
+    sites: &[Site],
+    plan: &[bool],
+    extra: f64,
+    customers: &mut [Customer],
+)
+    requires { length plan.now ≡ length sites.now }
+    ensures { length customers.new ≡ length customers.old }
+{
+    for i in 0..sites.len() {
+        if matches!(sites[i].state, SiteState::Free) {
+            mend(
+                payers.of_site(i),
+                plan[i],
+                sites[i].fixed + extra,
+                customers,
+            );
+        }
+    }
+}
+
+fn mend(payers: &[Payer], in_plan: bool, fixed: f64, customers: &mut [Customer])
+    ensures { length customers.new ≡ length customers.old }
+{
+    let slack = slack_of(payers, fixed, customers);
+    if in_plan && slack > 0.0 {
+        let movers = raisable(payers, customers);
+        if movers > 0.0 {
+            raise(payers, slack / movers, customers);
+        }
+    } else if !in_plan && slack < 0.0 {
+        let movers = lowerable(payers, customers);
+        if movers > 0.0 {
+            lower(payers, -slack / movers, customers);
+        }
+    }
+}
+
+fn slack_of(payers: &[Payer], fixed: f64, customers: &[Customer]) -> f64 {
+    let mut slack = fixed;
+    for payer in payers {
+        if payer.customer < customers.len() {
+            let value = customers[payer.customer].value;
+            if payer.cost < value {
+                slack -= value - payer.cost;
+            }
+        }
+    }
+    slack
+}
+
+fn raisable(payers: &[Payer], customers: &[Customer]) -> f64 {
+    let mut movers = 0.0;
+    for payer in payers {
+        if payer.customer < customers.len() {
+            let one = customers[payer.customer];
+            if payer.cost <= one.value && one.value < one.high {
+                movers += 1.0;
+            }
+        }
+    }
+    movers
+}
+
+fn raise(payers: &[Payer], step: f64, customers: &mut [Customer])
+    ensures { length customers.new ≡ length customers.old }
+{
+    for payer in payers {
+        if payer.customer < customers.len() {
+            let one = customers[payer.customer];
+            if payer.cost <= one.value && one.value < one.high {
+                customers[payer.customer].value = (one.value + step).min(one.high);
+            }
+        }
+    }
+}
+
+fn lowerable(payers: &[Payer], customers: &[Customer]) -> f64 {
+    let mut movers = 0.0;
+    for payer in payers {
+        if payer.customer < customers.len() {
+            let one = customers[payer.customer];
+            if payer.cost < one.value && one.low < one.value {
+                movers += 1.0;
+            }
+        }
+    }
+    movers
+}
+
+fn lower(payers: &[Payer], step: f64, customers: &mut [Customer])
+    ensures { length customers.new ≡ length customers.old }
+{
+    for payer in payers {
+        if payer.customer < customers.len() {
+            let one = customers[payer.customer];
+            if payer.cost < one.value && one.low < one.value {
+                customers[payer.customer].value = (one.value - step).max(one.low);
+            }
+        }
+    }
+}

@@ -1,0 +1,124 @@
+//! The slacks that duals leave, and the slopes of the bound at them.
+ghost use Rattle.std.specs.Prelude.{◌≡◌, ◌<◌, length};
+
+use crate::customer::Customer;
+use crate::site::Site;
+use lane_order::LaneOrder;
+use std::num::nearest_u64_to_f64;
+
+/// Fills in the slacks of the sites at the duals that are evaluated. The answer is the sum of the duals.
+pub(crate) fn fill_slacks(
+    order: &LaneOrder,
+    customers: &[Customer],
+    sites: &[Site],
+    slacks: &mut [f64],
+) -> f64
+    requires customers { length customers.now ≡ length order.now.lanes }
+    requires sites { length sites.now ≡ length slacks.old }
+    requires slacks { length slacks.old ≡ length order.now.sites }
+    ensures { length slacks.new ≡ length slacks.old }
+{
+    fill_costs(sites, slacks);
+    let mut sum = 0.0;
+    for j in 0..customers.len() {
+        let value = customers[j].value;
+        sum += value;
+        pay(order, j, value, slacks);
+    }
+    sum
+}
+
+fn fill_costs(sites: &[Site], slacks: &mut [f64])
+    requires { length sites.now ≡ length slacks.old }
+    ensures { length slacks.new ≡ length slacks.old }
+{
+    for i in 0..slacks.len() {
+        slacks[i] = sites[i].fixed;
+    }
+}
+
+// Takes off the slacks what the customer at place `j` pays with this dual.
+fn pay(order: &LaneOrder, j: usize, value: f64, slacks: &mut [f64])
+    requires customer { j < length order.now.lanes }
+    requires slacks { length slacks.old ≡ length order.now.sites }
+    ensures { length slacks.new ≡ length slacks.old }
+{
+    for lane in order.lanes(j) {
+        let cost = nearest_u64_to_f64(lane.cost);
+        if value <= cost {
+            return;
+        }
+        slacks[lane.site as usize] -= value - cost;
+    }
+}
+
+/// Fills in the slopes, where these sites are open.
+pub(crate) fn fill_slopes(order: &LaneOrder, open: &[bool], customers: &mut [Customer])
+    requires customers { length customers.old ≡ length order.now.lanes }
+    requires open { length open.now ≡ length order.now.sites }
+    ensures { length customers.new ≡ length customers.old }
+{
+    for j in 0..customers.len() {
+        customers[j].slope = slope(order, j, customers[j].value, open);
+    }
+}
+
+fn slope(order: &LaneOrder, j: usize, value: f64, open: &[bool]) -> f64
+    requires customer { j < length order.now.lanes }
+    requires open { length open.now ≡ length order.now.sites }
+{
+    let mut slope = 1.0;
+    for lane in order.lanes(j) {
+        if value <= nearest_u64_to_f64(lane.cost) {
+            return slope;
+        }
+        if open[lane.site as usize] {
+            slope -= 1.0;
+        }
+    }
+    slope
+}
+
+/// Sets the limits that a plan with these open sites suggests: a customer's dual is at least what its
+/// cheapest lane from them costs, and at most what its second does.
+pub(crate) fn fill_limits(order: &LaneOrder, open: &[bool], customers: &mut [Customer])
+    requires customers { length customers.old ≡ length order.now.lanes }
+    requires open { length open.now ≡ length order.now.sites }
+    ensures { length customers.new ≡ length customers.old }
+{
+    for j in 0..customers.len() {
+        let (low, high) = limits(order, j, open, customers[j]);
+        customers[j].low = low;
+        customers[j].high = high;
+    }
+}
+
+fn limits(order: &LaneOrder, j: usize, open: &[bool], one: Customer) -> (f64, f64)
+    requires customer { j < length order.now.lanes }
+    requires open { length open.now ≡ length order.now.sites }
+{
+    let mut low = None;
+    for lane in order.lanes(j) {
+        if open[lane.site as usize] {
+            let cost = nearest_u64_to_f64(lane.cost);
+            match low {
+                None => low = Some(cost),
+                Some(low) => return (low, cost),
+            }
+        }
+    }
+    match low {
+        None => (one.least, one.most),
+        Some(low) => (low, one.most.max(low)),
+    }
+}
+
+/// Lets the limits be the widest that make sense.
+pub(crate) fn widen_limits(customers: &mut [Customer])
+    ensures { length customers.new ≡ length customers.old }
+{
+    for j in 0..customers.len() {
+        customers[j].low = customers[j].least;
+        customers[j].high = customers[j].most;
+    }
+}

@@ -1,0 +1,41 @@
+//! What steps know of each site.
+ghost use Rattle.std.specs.Prelude.{◌≡◌, ◌<◌, length};
+
+use dual_value::{PreparedBox, SiteState};
+
+/// What is settled of a site, and what it costs to open it, in millionths.
+#[derive(Clone, Copy)]
+pub(crate) struct Site {
+    pub(crate) state: SiteState,
+    pub(crate) fixed: f64,
+}
+
+/// Takes what the box settles of the sites.
+pub(crate) fn take_states(boxed: &PreparedBox<'_>, sites: &mut [Site])
+    requires { length sites.old ≡ length boxed.now.instance.sites }
+    ensures { length sites.new ≡ length sites.old }
+{
+    for i in 0..sites.len() {
+        sites[i].state = boxed.state(i);
+    }
+}
+
+/// Whether a plan with these open sites is in the box.
+pub(crate) fn is_within(sites: &[Site], open: &[bool]) -> bool
+    requires { length open.now ≡ length sites.now }
+{
+    for i in 0..sites.len() {
+        if !suits(sites[i].state, open[i]) {
+            return false;
+        }
+    }
+    true
+}
+
+fn suits(state: SiteState, open: bool) -> bool {
+    match state {
+        SiteState::Free => true,
+        SiteState::Opened => open,
+        SiteState::Closed => !open,
+    }
+}
