@@ -1,4 +1,5 @@
--- How a tree comes from another by a search, and what plans the search has to have sought.
+-- How a tree comes from another by a search, and what plans the search has to have sought. The target is the cost of the plan that the search was
+-- handed; where there is none, only leaves of scale 0 close.
 use Rattle.std.specs.Prelude.{◌≡◌, ◌⊎◌, ℕ, ◌≤◌, [], ◌∷◌, ◌++◌, All, Option, Some, IsSomeAnd}
 use Rattle.location_terms.specs.Instance.{Instance}
 use Rattle.location_terms.specs.Plan.{Plan, cost_of}
@@ -19,13 +20,13 @@ IsGrownBelow I target path (OnLane s c without using) (OnLane s_now c_now withou
     (s ≡ s_now) × (c ≡ c_now) × IsGrownBelow I target (path ++ No s c ∷ []) without without_now × IsGrownBelow I target (path ++ Yes s c ∷ []) using using_now
 IsGrownBelow I target path old new = ⊥
 
--- the new tree stands on the same ids and has the old one's splits, and each leaf of the old one that doesn't close with the target was worked
+-- the new tree stands on the same ids and has the old one's splits, and each leaf of the old one that doesn't close with the target is replaced by a tree that was made for it
 pub record IsGrownFrom (I : Instance) (target : Option ℕ) (old new : Tree) : Type 0 where
   pub sites : new.sites ≡ old.sites
   pub customers : new.customers ≡ old.customers
   pub root : IsGrownBelow I target [] old.root new.root
 
--- for each leaf with a scale, where packing on its tight sites gives a plan, there is a plan that costs at most as much
+-- at each leaf of scale 1 or more, where packing on its tight sites gives a plan, there is a plan that costs at most as much
 abbrev pub PlansWereSought : Instance → Tree → Option Plan → Type 0
 PlansWereSought I t plan =
     All (λ l. 1 ≤ l.1.q → (P : Plan) → packed I l.0 (tight_sites I l.0 l.1) ≡ Some P → IsSomeAnd plan (λ Q. cost_of I Q ≤ cost_of I P)) (leaves_of t)

@@ -30,7 +30,8 @@ IsPlainAscent I path d = IsAscended I path (zeros I (plain_scale I)) d
 
 -- Leaves.
 
--- the scales of the leaves that are made: that of the plain ascent, and where no site has a capacity the greatest of all
+-- The scale of a made leaf that isn't a ray: that of the plain ascent, which is 1 where no site has a capacity, or there the greatest that a leaf may
+-- have. Which of the two is the search's choice.
 abbrev pub IsMadeScale : Instance → ℕ → Type 0
 IsMadeScale I q = (q ≡ plain_scale I) ⊎ ((plain_scale I ≡ 1) × (q ≡ MAX_SCALE))
 
@@ -41,6 +42,7 @@ AreServed I path = (j : ℕ) → j < length I.customers → length (servers I pa
 -- A leaf of at least scale 1 in a box, made below a leaf whose path and duals are `old_path` and `old`: it is no weaker than the
 -- plain ascent of its box, stronger where that gains, and no weaker than the leaf that it replaces.
 pub record IsMadeAtScale (I : Instance) (old_path : Path) (old : Duals) (path : Path) (d : Duals) : Type 0 where
+  -- a box in which some customer has no allowed lane gets a ray instead
   pub served : AreServed I path
   pub scale : IsMadeScale I d.q
   pub tame : AreTame I d
@@ -51,7 +53,7 @@ pub record IsMadeAtScale (I : Instance) (old_path : Path) (old : Duals) (path : 
   pub gains : Gains I path ascent → IsGreater (bound_of I path d) d.q (bound_of I path ascent) ascent.q
   pub replaced : AreTame I old → IsMadeScale I old.q → IsAtLeast (bound_of I path d) d.q (bound_of I old_path old) old.q
 
--- a leaf made in a box: a ray, which shows the box to be empty, or duals of a scale
+-- a leaf made in a box: a ray, that is duals of scale 0, which shows the box to be empty, or duals of scale 1 or more
 pub record IsMadeLeaf (I : Instance) (old_path : Path) (old : Duals) (path : Path) (d : Duals) : Type 0 where
   pub fit : DualsFit I d
   -- at scale 0 it closes, whatever the target is
@@ -61,7 +63,7 @@ pub record IsMadeLeaf (I : Instance) (old_path : Path) (old : Duals) (path : Pat
 -- Splits.
 
 -- The box needs a split: every customer has an allowed lane, and the plain ascent closes it neither with the target nor with the
--- cost of the plan that its own tight sites give.
+-- cost of the plan that its own tight sites give. So a search that packs at these sites too never meets an open leaf whose box may not be split.
 pub record IsOpenBox (I : Instance) (target : Option ℕ) (path : Path) : Type 0 where
   pub served : AreServed I path
   pub ascent : Duals
@@ -91,7 +93,7 @@ pub record IsOpenLane (I : Instance) (path : Path) (s c : ℕ) : Type 0 where
   pub undecided : Contains path (Yes s c) → ⊥
   pub others : 1 < length (servers I path customer)
 
--- the tree was made in the box of this path, below the leaf of the old path and duals
+-- a tree whose root is the box of `path`, made for a leaf that had the duals `old` at `old_path`
 abbrev pub IsMade : Instance → Option ℕ → Path → Duals → Path → Node → Type 0
 IsMade I target old_path old path (Leaf d) = IsMadeLeaf I old_path old path d
 IsMade I target old_path old path (OnSite s closed opened) =

@@ -1,0 +1,31 @@
+-- The scale of the plain ascent, and that its bound is not below 0.
+use Rattle.std.proofs.Common.{◌≡◌, ◌≤◌, Bool, true, false, None, ap, pos, ◌≤ℤ◌, arith}
+use Rattle.std.specs.Prelude.{is_some, if◌then◌else◌}
+use Rattle.std.specs.List.{list_any}
+use Rattle.std.proofs.lemmas.List.Elements.{All-weaker}
+use Rattle.std.proofs.lemmas.List.Folds.{list_any_none}
+use Rattle.location_terms.specs.Instance.{Instance, IsValid}
+use Rattle.location_terms.specs.Box.{Path}
+use Rattle.location_terms.specs.Bound.{Duals, bound_of}
+use Rattle.location_terms.specs.declared.limits.TheConstants.{MAX_SCALE}
+use Rattle.dual_ascent.proofs.Plain.{plain_bound}
+use Rattle.plan_search.specs.InBox.{HasNoCaps}
+use Rattle.tree_search.specs.Made.{plain_scale, IsPlainAscent}
+
+scale_fits : (b : Bool) → (1 ≤ (if b then 1000 else 1)) × ((if b then 1000 else 1) ≤ MAX_SCALE)
+scale_fits true = (omega arith, omega arith)
+scale_fits false = (omega arith, omega arith)
+
+-- the scale of the plain ascent is within its limits
+pub plain_scale_fits : (I : Instance) → (1 ≤ plain_scale I) × (plain_scale I ≤ MAX_SCALE)
+plain_scale_fits I = scale_fits (list_any (λ s. is_some s.cap) I.sites)
+
+-- without capacities it is 1
+pub none_capped : (I : Instance) → HasNoCaps I → list_any (λ s. is_some s.cap) I.sites ≡ false
+none_capped I no_caps = list_any_none (λ s. is_some s.cap) I.sites (All-weaker (λ s. s.cap ≡ None) (λ s. is_some s.cap ≡ false) (λ s e. ap is_some e) I.sites no_caps)
+
+pub scale_is_one : (I : Instance) → HasNoCaps I → plain_scale I ≡ 1
+scale_is_one I no_caps = ap (λ (b : Bool). if b then 1000 else 1) (none_capped I no_caps)
+
+pub bound_at_zero : (I : Instance) (path : Path) → IsValid I → (d : Duals) → IsPlainAscent I path d → pos 0 ≤ℤ bound_of I path d
+bound_at_zero I path valid d ascent = plain_bound I path (plain_scale I) (plain_scale_fits I).0 (plain_scale_fits I).1 valid d ascent

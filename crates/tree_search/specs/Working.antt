@@ -1,0 +1,92 @@
+-- What a search has of the leaves that it works, from step to step.
+use Rattle.std.specs.Prelude.{◌≡◌, ◌⊎◌, ℕ, ◌+◌, ◌-◌, ◌<◌, ◌≤◌, length, Bool, IsTrue, IsFalse, Option, None, Some, IfSome, IsSomeAnd}
+use Rattle.location_terms.specs.Instance.{Instance, site_ids, customer_ids, site_at}
+use Rattle.location_terms.specs.Plan.{Plan, cost_of}
+use Rattle.location_terms.specs.Box.{Path, is_free}
+use Rattle.location_terms.specs.Bound.{Duals, bound_of}
+use Rattle.location_terms.specs.Fit.{DualsFit, BoundCloses}
+use Rattle.location_terms.specs.Tree.{Tree, nodes_of}
+use Rattle.dual_adjust.specs.Slackness.{tight_sites}
+use Rattle.plan_search.specs.InBox.{IsPathOf, IsNoWorse}
+use Rattle.plan_search.specs.Packed.{packed}
+use Rattle.branch_tree.specs.declared.split.Split.{Split}
+use Rattle.branch_tree.specs.declared.split.Split.TheVariants.{Site, Lane}
+use Rattle.branch_tree.specs.Growing.{Growing}
+use Rattle.branch_tree.specs.Built.{IsBuiltOf, IsBuiltIn, IsDoneIn}
+use Rattle.tree_search.specs.Made.{IsMadeLeaf, IsOpenBox, IsFreeSite}
+use Rattle.tree_search.specs.Making.{LowersNone}
+use Rattle.tree_search.specs.Answer.{cost_in}
+
+-- One leaf.
+
+-- the duals close the box against the plan's cost, or without a plan
+abbrev pub ClosesWith : Instance → Option Plan → Path → Duals → Type 0
+ClosesWith I plan path d = BoundCloses (bound_of I path d) d.q (cost_in I plan)
+
+-- the plan costs at most as much as what is packed at the tight sites of these duals
+abbrev pub IsSoughtAt : Instance → Option Plan → Path → Duals → Type 0
+IsSoughtAt I plan path d = (P : Plan) → packed I path (tight_sites I path d) ≡ Some P → IsSomeAnd plan (λ Q. cost_of I Q ≤ cost_of I P)
+
+-- no site is free in the box
+abbrev pub HasNoFreeSite : Instance → Path → Type 0
+HasNoFreeSite I path = (i : ℕ) → i < length I.sites → IsFalse (is_free path (site_at I i))
+
+-- the best duals close the box, or a plan was sought where the plain ascent is tight
+abbrev pub IsPressed : Instance → Option Plan → Path → Duals → Duals → Type 0
+IsPressed I plan path plain best = ClosesWith I plan path best ⊎ IsSoughtAt I plan path plain
+
+-- why a box that may be split is left whole, or why it is split on this site
+pub record IsVerdict (I : Instance) (plan : Option Plan) (may_split : Bool) (path : Path) (d : Duals) (split : Option ℕ) : Type 0 where
+  pub sought : 1 ≤ d.q → IsSoughtAt I plan path d
+  pub whole : split ≡ None → ClosesWith I plan path d ⊎ (IsFalse may_split ⊎ HasNoFreeSite I path)
+  pub halved : IfSome split (λ s. (ClosesWith I plan path d → ⊥) × IsTrue may_split × IsFreeSite I path s)
+
+-- what working a box gives: the duals of a leaf that is made, and the site on which the box is to be split
+pub record IsWorked (I : Instance) (plan : Option Plan) (may_split : Bool) (old : Duals) (path : Path) (d : Duals) (split : Option ℕ) : Type 0 where
+  pub made : (old_path : Path) → LowersNone I old_path path → IsMadeLeaf I old_path old path d
+  pub sought : 1 ≤ d.q → IsSoughtAt I plan path d
+  pub whole : split ≡ None → ClosesWith I plan path d ⊎ IsFalse may_split
+  pub halved : IfSome split (λ s. IsTrue may_split × IsFreeSite I path s × ((handed : Option Plan) → IsNoWorse I plan handed → IsOpenBox I (cost_in I handed) path))
+
+-- The tree that grows in the place of a leaf, whose path and duals are `base` and `old`.
+
+-- a leaf that is done: it is made, plans were sought for it, and it closes, or one split more passes the limit of nodes
+pub record IsDoneLeaf (I : Instance) (base : Path) (old : Duals) (plan : Option Plan) (limit nodes : ℕ) (path : Path) (d : Duals) : Type 0 where
+  pub made : IsMadeLeaf I base old path d
+  pub sought : 1 ≤ d.q → IsSoughtAt I plan path d
+  pub ends : ClosesWith I plan path d ⊎ (limit < nodes + 2)
+
+-- a split of an open box on a free site
+abbrev pub IsSiteSplit : Instance → Option ℕ → Path → Split → Type 0
+IsSiteSplit I target path (Site s) = IsOpenBox I target path × IsFreeSite I path s
+IsSiteSplit I target path (Lane s c) = ⊥
+
+-- a leaf whose path goes on from the base
+pub record IsReached (I : Instance) (base : Path) (path : Path) (d : Duals) : Type 0 where
+  pub known : IsPathOf I path
+  pub lowers : LowersNone I base path
+  pub fit : DualsFit I d
+
+abbrev pub AnySplit : Path → Split → Type 0
+AnySplit path split = Unit {0}
+
+-- the tree while it grows
+pub record IsGrowing (I : Instance) (base : Path) (old : Duals) (handed plan : Option Plan) (limit : ℕ) (g : Growing) : Type 0 where
+  pub at : g.base ≡ base
+  pub sites : g.tree.sites ≡ site_ids I
+  pub customers : g.tree.customers ≡ customer_ids I
+  pub reached : IsBuiltIn (IsReached I base) AnySplit g
+  pub done : IsDoneIn (IsDoneLeaf I base old plan limit (nodes_of g.tree)) (IsSiteSplit I (cost_in I handed)) g
+  pub within : nodes_of g.tree ≤ limit
+  pub no_worse : IsNoWorse I plan handed
+
+-- how many steps are left at most
+abbrev pub steps_left : ℕ → Growing → ℕ
+steps_left limit g = (limit - nodes_of g.tree) + g.left
+
+-- the whole tree
+pub record IsGrownPart (I : Instance) (base : Path) (old : Duals) (handed plan : Option Plan) (limit : ℕ) (t : Tree) : Type 0 where
+  pub sites : t.sites ≡ site_ids I
+  pub customers : t.customers ≡ customer_ids I
+  pub root : IsBuiltOf (IsDoneLeaf I base old plan limit (nodes_of t)) (IsSiteSplit I (cost_in I handed)) base t.root
+  pub within : nodes_of t ≤ limit

@@ -1,0 +1,29 @@
+ghost use Rattle.std.specs.Prelude.{◌≡◌};
+
+use branch_tree::Tree;
+use plan_meaning::Plan;
+
+/// What a search came to, with the tree that shows it. `made` is how many nodes its splits made.
+#[derive(Drop)]
+pub enum Answer {
+    /// The plan is optimal and costs `cost` millionths.
+    Optimal {
+        plan: Plan,
+        cost: u64,
+        tree: Tree,
+        made: u32,
+    },
+    /// No plan is feasible.
+    Infeasible {
+        tree: Tree,
+        made: u32,
+    },
+    /// No feasible plan costs less than `low` millionths, and the plan, where there is one, is feasible.
+    /// A leaf of the tree is open, and another split would pass the budget.
+    Bracket {
+        low: u64,
+        plan: Option<Plan>,
+        tree: Tree,
+        made: u32,
+    },
+}

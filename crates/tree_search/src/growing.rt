@@ -1,0 +1,181 @@
+//! The growth of a tree.
+ghost use Rattle.std.specs.Prelude.{◌≡◌, ℕ, ◌+◌, ◌*◌, ◌^◌, ◌<◌, ◌≤◌, All, IfOk, IfSome, OnOk, length, slice_get};
+ghost use Rattle.location_terms.specs.Fit.{DualsFit};
+ghost use Rattle.location_terms.specs.Tree.{StandsOn, leaves_of, nodes_of};
+ghost use Rattle.lane_order.specs.Order.{IsOrderOf};
+ghost use Rattle.dual_steps.specs.Sizes.{sizes_of};
+ghost use Rattle.plan_search.specs.InBox.{HasNoCaps};
+ghost use Rattle.tree_search.specs.Answer.{HasFreeCount, AreHeld, IsSearchStart, IsAnswerTo, cost_in};
+ghost use Rattle.tree_search.specs.Best.{Improves};
+ghost use Rattle.tree_search.specs.Regrown.{IsKnownLeaf, HaveEnded, IsGrownAt, IsRegrownFrom, Answers};
+
+use crate::helpers::Helpers;
+use crate::incumbent::{Incumbent, plan_cost};
+use crate::leaf_growth::grow_leaf;
+use crate::{Answer, MAX_DUALS};
+use branch_tree::Tree;
+use instance_store::{Instance, NoMemory};
+use lane_order::LaneOrder;
+use plan_meaning::Plan;
+use std::alloc::Global;
+
+/// The greatest number of nodes of a tree from which a search of this instance starts, and the greatest
+/// budget.
+pub fn max_nodes(inst: &Instance) -> u32
+    ensures within { result * (length inst.now.sites + length inst.now.customers) ≤ MAX_DUALS }
+    ensures greatest { MAX_DUALS < (result + 1) * (length inst.now.sites + length inst.now.customers) }
+{
+    let duals = inst.sites() as u64 + inst.custs() as u64;
+    (MAX_DUALS / duals) as u32
+}
+
+/// Grows a tree until each leaf closes against the cost of the best plan found, or another split, which
+/// makes two nodes, would make more than `budget` in all.
+///
+/// A handed plan is feasible, and the answer's plan costs at most as much. `held` says of each leaf of
+/// the tree, in preorder, whether it closes against the handed plan's cost, or, where no plan is handed,
+/// without a target. Such a leaf stays as it is; each other one is replaced, whatever the budget is. So
+/// far no site may have a capacity, and any number of sites may be open. It fails only where memory runs
+/// out.
+pub fn grow(
+    alloc: Global,
+    inst: &Instance,
+    order: &LaneOrder,
+    tree: Tree,
+    held: &[bool],
+    plan: Option<Plan>,
+    budget: u32,
+) -> Result<Answer, NoMemory>
+    requires order { IsOrderOf order.now inst.now }
+    requires start { IsSearchStart inst.now tree held.now plan budget }
+    requires no_caps { HasNoCaps inst.now }
+    requires free_count { HasFreeCount inst.now }
+    ensures { IfOk result (IsAnswerTo inst.now tree plan budget) }
+{
+    // An instance is valid, so that the numbers of nodes are small.
+    let _sites = inst.sites();
+    let mut tree = tree;
+    let mut incumbent = Incumbent::of(inst, plan);
+    let mut helpers = Helpers::of(alloc, inst, order)?;
+    let made = grow_open(
+        alloc,
+        order,
+        &mut tree,
+        held,
+        &mut incumbent,
+        &mut helpers,
+        budget,
+    )?;
+    answer(inst, tree, incumbent, made)
+}
+
+// Grows a tree in the place of each leaf that isn't held, from the last to the first, so that the places
+// of those to come stay the same: how many nodes the splits made.
+fn grow_open(
+    alloc: Global,
+    order: &LaneOrder,
+    tree: &mut Tree,
+    held: &[bool],
+    incumbent: &mut Incumbent<'_>,
+    helpers: &mut Helpers,
+    budget: u32,
+) -> Result<u32, NoMemory>
+    requires order { IsOrderOf order.now incumbent.old.instance }
+    requires no_caps { HasNoCaps incumbent.old.instance }
+    requires free_count { HasFreeCount incumbent.old.instance }
+    requires stands { StandsOn tree.old incumbent.old.instance }
+    requires fit { All (λ l. DualsFit incumbent.old.instance l.1) (leaves_of tree.old) }
+    requires held { AreHeld incumbent.old.instance tree.old (cost_in incumbent.old.instance incumbent.old.plan) held.now }
+    requires few { nodes_of tree.old + budget + 3 < 2 ^ 32 }
+    requires sizes { helpers.old ≡ sizes_of incumbent.old.instance }
+    ensures plan { OnOk result (Improves incumbent.old incumbent.new) }
+    ensures sizes { OnOk result (helpers.new ≡ helpers.old) }
+    ensures grown { IfOk result (IsRegrownFrom incumbent.old.instance tree.old incumbent.old.plan incumbent.new.plan budget 0 tree.new) }
+{
+    // The instance is valid, and the tree's splits are on its ids.
+    let _sites = incumbent.instance().sites();
+    let _nodes = tree.nodes();
+    let mut made = 0;
+    let mut left = held.len();
+    while left > 0 {
+        left -= 1;
+        if !held[left] {
+            made += grow_at(alloc, order, tree, left, incumbent, helpers, budget - made)?;
+        }
+    }
+    Ok(made)
+}
+
+// Grows a tree in the place of leaf `k`: how many nodes the splits made.
+fn grow_at(
+    alloc: Global,
+    order: &LaneOrder,
+    tree: &mut Tree,
+    k: usize,
+    incumbent: &mut Incumbent<'_>,
+    helpers: &mut Helpers,
+    budget: u32,
+) -> Result<u32, NoMemory>
+    requires order { IsOrderOf order.now incumbent.old.instance }
+    requires no_caps { HasNoCaps incumbent.old.instance }
+    requires free_count { HasFreeCount incumbent.old.instance }
+    requires stands { StandsOn tree.old incumbent.old.instance }
+    requires within { k < length (leaves_of tree.old) }
+    requires known { IfSome (slice_get (leaves_of tree.old) k) (λ l. IsKnownLeaf incumbent.old.instance l.0 l.1) }
+    requires few { nodes_of tree.old + budget + 3 < 2 ^ 32 }
+    requires sizes { helpers.old ≡ sizes_of incumbent.old.instance }
+    ensures plan { OnOk result (Improves incumbent.old incumbent.new) }
+    ensures sizes { OnOk result (helpers.new ≡ helpers.old) }
+    ensures grown { IfOk result (IsGrownAt incumbent.old.instance tree.old k incumbent.old.plan incumbent.new.plan budget tree.new) }
+{
+    let path = tree.leaf_path(k)?;
+    let part = grow_leaf(
+        alloc,
+        order,
+        path,
+        tree.leaf_duals(k),
+        incumbent,
+        helpers,
+        budget + 1,
+    )?;
+    let made = part.nodes() - 1;
+    tree.replace_leaf(k, part)?;
+    Ok(made)
+}
+
+// What the tree and the incumbent's plan show.
+fn answer(
+    inst: &Instance,
+    tree: Tree,
+    incumbent: Incumbent<'_>,
+    made: u32,
+) -> Result<Answer, NoMemory>
+    requires instance { incumbent.instance ≡ inst.now }
+    requires stands { StandsOn tree inst.now }
+    requires ended { (budget : ℕ) × HaveEnded inst.now incumbent.plan budget made tree }
+    ensures { IfOk result (λ a. (budget : ℕ) → HaveEnded inst.now incumbent.entry.plan budget made tree → Answers inst.now tree incumbent.entry.plan made budget a) }
+{
+    let _nodes = tree.nodes();
+    if !tree.accepts(inst, incumbent.cost())? {
+        let low = tree.low(inst)?;
+        let plan = incumbent.into_plan();
+        return Ok(Answer::Bracket {
+            low,
+            plan,
+            tree,
+            made,
+        });
+    }
+    match incumbent.into_plan() {
+        None => Ok(Answer::Infeasible { tree, made }),
+        Some(plan) => {
+            let cost = plan_cost(inst, &plan);
+            Ok(Answer::Optimal {
+                plan,
+                cost,
+                tree,
+                made,
+            })
+        }
+    }
+}
