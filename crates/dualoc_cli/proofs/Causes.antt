@@ -1,11 +1,11 @@
 -- That replies have their causes.
-use Rattle.std.proofs.Common.{◌≡◌, ◌⊎◌, Ok, Err, ℕ, ◌+◌, ◌*◌, ◌<◌, ◌≤◌, List, [], length, Option, None, Some, sym, refl, ap, subst, inl, inr, arith}
+use Rattle.std.proofs.Common.{◌≡◌, ◌⊎◌, Ok, Err, ℕ, ◌+◌, ◌*◌, ◌<◌, ◌≤◌, List, [], length, Option, None, Some, sym, refl, ap, ◌∙◌, subst, inl, inr, arith}
 use Rattle.std.specs.Prelude.{IsSomeAnd, replicate, pos, ◌≤ℤ◌}
 use Rattle.std.specs.FinMap.{get}
 use Rattle.std.proofs.lemmas.Int.{ints}
 use Rattle.std.proofs.lemmas.List.{length-replicate}
 use Rattle.std.proofs.lemmas.List.Elements.{All-nil}
-use Rattle.shelf_port.specs.Files.{Files, HasFile, MayHold, Rose}
+use Rattle.shelf_port.specs.Files.{Files, HasFile, MayHold, Rose, NeverFalls}
 use Rattle.shelf_port.specs.Ports.{ShelfState}
 use Rattle.location_terms.specs.Instance.{Instance, IsValid}
 use Rattle.location_terms.specs.Optimal.{ClaimHolds}
@@ -23,6 +23,8 @@ use Rattle.dual_ascent.specs.Kept.{Keeps}
 use Rattle.dual_ascent.proofs.Plain.{plain_keeps, plain_values, plain_slacks, plain_bound}
 use Rattle.dual_ascent.proofs.Small.{value_small, slack_small, bound_small}
 use Rattle.report.specs.DualsText.{ArePrintable}
+use Rattle.location_terms.specs.Plain.{IsPlain}
+use Rattle.plan_search.specs.InBox.{HasNoCaps}
 use Rattle.ufllib_read.proofs.Meant.{valid-meant}
 use Rattle.certificate_lines.specs.Text.{certificate_text}
 use Rattle.certificate_lines.specs.Follow.{HasSmallCosts}
@@ -38,8 +40,8 @@ use Rattle.dualoc_cli.specs.declared.words.FileForm.TheVariants.{Ufl}
 use Rattle.dualoc_cli.specs.declared.limits.TheConstants.{MAX_INSTANCE_BYTES}
 use Rattle.dualoc_cli.specs.declared.reply.Reply.{Reply}
 use Rattle.dualoc_cli.specs.declared.reply.Reply.TheVariants.{Optimum, Ascent, CertificateUnread, LongCertificate, Misspelt, Judged}
-use Rattle.dualoc_cli.specs.Command.{InstanceFile, Job, OnFile, ShowDuals, Check, command_of, meaning_of}
-use Rattle.dualoc_cli.specs.Due.{Run, IsTooLong, HasTask, FailsToRead, IsRaised, IsAnswered, IsConfirmed, IsCause}
+use Rattle.dualoc_cli.specs.Command.{InstanceFile, Job, OnFile, SolveShort, SolveLong, ShowDuals, Check, command_of, meaning_of, meaning_in}
+use Rattle.dualoc_cli.specs.Due.{Run, IsTooLong, HasTask, FailsToRead, IsRaised, IsAnswered, IsConfirmed, IsCause, ChangesNoFile, Keeps as KeepsFiles}
 use Rattle.dualoc_cli.specs.Step.{Covers, IsPrintable}
 
 -- what a read of the whole file told, as what the file may hold
@@ -76,7 +78,7 @@ too_long r file job told words_are same long =
     }
 
 -- a count that rose over a part of the time rose over all of it
-rose_over : (a b c d : ℕ) → a ≤ b → c ≤ d → Rose b c → Rose a d
+pub rose_over : (a b c d : ℕ) → a ≤ b → c ≤ d → Rose b c → Rose a d
 rose_over a b c d since until rose = elim rose [ inl above ↦ inl (omega arith) | inr full ↦ inr (omega arith) ]
 
 -- a read that failed in a part of a run failed in the run
@@ -84,12 +86,53 @@ pub fails_in : (r : Run) (old new : ShelfState) (name : List ℕ) → Covers r o
 fails_in r old new name part rose =
     rose_over (r.before.shelf.reads name) (old.reads name) (new.reads name) (r.after.shelf.reads name) (part.since name) (part.until name) rose
 
+-- where a part of a run, and what is left of it, change no file, the job keeps what it has to
+keeps : (r : Run) (job : Job) → ChangesNoFile r → KeepsFiles r job
+keeps r SolveShort same = same
+keeps r (SolveLong into given) same = inl same
+keeps r ShowDuals same = same
+keeps r (Check certificate) same = same
+
+pub changes_none : (r : Run) (old new : ShelfState) → Covers r old new → new.files ≡ old.files → ChangesNoFile r
+changes_none r old new part same = sym part.left ∙ same ∙ part.files
+
+pub unchanged : (r : Run) (job : Job) (old new : ShelfState) → Covers r old new → new.files ≡ old.files → KeepsFiles r job
+unchanged r job old new part same = keeps r job (changes_none r old new part same)
+
+-- what a part of a run covers behind a first piece of it that changes no file
+pub covers_rest : (r : Run) (old mid new : ShelfState) → Covers r old new → mid.files ≡ old.files → NeverFalls old.reads mid.reads → NeverFalls old.writes mid.writes → Covers r mid new
+covers_rest r old mid new part same reads writes =
+    record {
+      files = same ∙ part.files;
+      left = part.left;
+      since = λ name. omega (arith, part.since name, reads name);
+      until = part.until;
+      writes_since = λ name. omega (arith, part.writes_since name, writes name);
+      writes_until = part.writes_until;
+    }
+
+-- the task of a run whose instance was read
+pub task_of : (r : Run) (file : InstanceFile) (job : Job) (told : Option Files) (bytes : List ℕ) (I : Instance) → command_of r.words ≡ Some (OnFile file job) → told ≡ r.before.shelf.files
+    → HasFile told file.name (λ b. bytes ≡ b) → length bytes ≤ MAX_INSTANCE_BYTES → meaning_in file bytes ≡ Ok I → HasTask r job I
+task_of r file job told bytes I words_are same has within means =
+    record {
+      file = file;
+      bytes = bytes;
+      asked = record { words_are = words_are; held = subst (λ f. MayHold f file.name bytes) same (may_hold told file.name bytes has) };
+      within = within;
+      means = means;
+    }
+
 -- the instance of a task is valid
 valid_in : (form : FileForm) (given : Option ℕ) (bytes : List ℕ) (I : Instance) → meaning_of form given bytes ≡ Ok I → IsValid I
 valid_in Ufl given bytes I means = valid-meant bytes I means
 
 pub task_valid : (r : Run) (job : Job) (I : Instance) → HasTask r job I → IsValid I
 task_valid r job I task = valid_in task.file.form task.file.given task.bytes I task.means
+
+-- a plain instance has no capacities
+pub plain_caps : (I : Instance) → IsPlain I → HasNoCaps I
+plain_caps I plain = λ i d below. let site = plain.sites i d below in site.no_cap
 
 -- the duals of an ascent from zeros can be printed
 ascent_printable : (I : Instance) (d : Duals) → IsValid I → IsAscended I [] (zeros I 1) d → ArePrintable I d

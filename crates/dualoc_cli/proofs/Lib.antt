@@ -1,3 +1,7 @@
+pub mod Apart
 pub mod Causes
+pub mod Lengths
 pub mod Outcomes
+pub mod Searching
+pub mod Storing
 pub mod Texts

@@ -1,8 +1,10 @@
 -- The commands, by the words of a command line.
-use Rattle.std.specs.Prelude.{◌==◌, ℕ, Bool, true, ◌&&◌, not, List, [], ◌∷◌, length, Option, None, Some, Result, codes, bytes_eq, if◌then◌else◌}
+use Rattle.std.specs.Prelude.{◌==◌, ℕ, Bool, true, false, ◌&&◌, not, List, [], ◌∷◌, length, take, drop, Option, None, Some, Result, Ok, Err, codes, decimal, bytes_eq, if◌then◌else◌}
 use Rattle.std.specs.List.{list_any}
-use Rattle.std.specs.Option.{option_map}
+use Rattle.std.specs.Option.{option_map, option_and_then}
 use Rattle.location_terms.specs.Instance.{Instance}
+use Rattle.fixed_cost.specs.Amount.{count_of}
+use Rattle.fixed_cost.specs.declared.amount.AmountFault.{AmountFault}
 use Rattle.fixed_cost.specs.declared.fault.FileFault.{FileFault}
 use Rattle.ufllib_read.specs.Ufl.{ufl_meaning}
 use Rattle.dualoc_cli.specs.declared.words.FileForm.{FileForm}
@@ -26,10 +28,16 @@ pub record InstanceFile : Type 0 where
 abbrev pub meaning_in : InstanceFile → List ℕ → Result Instance FileFault
 meaning_in file bytes = meaning_of file.form file.given bytes
 
--- what is to be done with the instance: to solve it by a walk over all sets of sites, to show the duals to which an ascent raises them,
--- or to check the certificate in a file against it
+-- the names of the files in which the result of a search is left: its plan, and the certificate that shows it
+pub record ResultFiles : Type 0 where
+  pub plan : List ℕ
+  pub certificate : List ℕ
+
+-- what is to be done with the instance: to solve it by a walk over all sets of sites, to solve it by a search within a budget of nodes,
+-- or a budget of its own where none is given, to show the duals to which an ascent raises them, or to check the certificate in a file against it
 pub data Job : Type 0 where
   SolveShort : Job
+  SolveLong : (into : ResultFiles) (given : Option ℕ) → Job
   ShowDuals : Job
   Check : (certificate : List ℕ) → Job
 
@@ -46,9 +54,28 @@ are_names (name ∷ names) = not (length name == 0) && not (list_any (bytes_eq n
 abbrev pub plain_command : Job → List ℕ → FileForm → Command
 plain_command job name form = OnFile (record { form = form; name = name; given = None }) job
 
+-- the count, where the word is just how it is printed
+abbrev pub printed_count : List ℕ → Result ℕ AmountFault → Option ℕ
+printed_count word (Ok n) = if bytes_eq word (decimal n) then Some n else None
+printed_count word (Err fault) = None
+
+-- the budget that an option gives: a count below 2 ^ 32 without a leading zero
+abbrev pub budget_of : List ℕ → Option ℕ
+budget_of word = if bytes_eq (take 7 word) (codes "budget=") then printed_count (drop 7 word) (count_of (drop 7 word)) else None
+
+-- the words of the long form of `solve`, with the budget that is given, if one is
+abbrev pub search_of : List ℕ → List ℕ → ResultFiles → Option ℕ → Option Command
+search_of form file into given =
+    if are_names (file ∷ into.plan ∷ into.certificate ∷ []) then option_map (plain_command (SolveLong into given) file) (form_of form) else None
+
+abbrev pub into_files : List ℕ → List ℕ → ResultFiles
+into_files plan certificate = record { plan = plan; certificate = certificate }
+
 -- the words behind `solve`
 abbrev pub solve_of : List (List ℕ) → Option Command
 solve_of (form ∷ file ∷ []) = if bytes_eq form (codes "ufl") && are_names (file ∷ []) then Some (plain_command SolveShort file Ufl) else None
+solve_of (form ∷ file ∷ plan ∷ certificate ∷ []) = search_of form file (into_files plan certificate) None
+solve_of (form ∷ file ∷ plan ∷ certificate ∷ option ∷ []) = option_and_then (λ budget. search_of form file (into_files plan certificate) (Some budget)) (budget_of option)
 solve_of _ = None
 
 -- the words behind `duals`

@@ -1,8 +1,8 @@
 -- The contract of `run` is `Runs`, at the end of this page: each reply has its cause, the run ends with a reply, or for want of
 -- memory, and the output gained its text. What a file holds is said as far as the shelf tells it: of a shelf that tells nothing,
 -- as the host's, only that there are such bytes. A count that rose is one that is greater or stands at the last value of its counter.
-use Rattle.std.specs.Prelude.{◌≡◌, ◌≢◌, ◌⊎◌, ℕ, ◌<◌, ◌≤◌, List, [], length, take, Option, None, Some, Ok, Err, codes, pos, ◌≤ℤ◌}
-use Rattle.shelf_port.specs.Files.{Files, MayHold, Rose}
+use Rattle.std.specs.Prelude.{◌≡◌, ◌⊎◌, ℕ, ◌+◌, ◌/◌, ◌^◌, min, ◌<◌, ◌≤◌, List, [], length, take, Option, None, Some, IsSome, Ok, Err, codes, pos, ◌≤ℤ◌}
+use Rattle.shelf_port.specs.Files.{Files, MayHold, LeavesPrefix, with_file, Rose}
 use Rattle.shelf_port.specs.Streams.{with_back, RefusedLast}
 use Rattle.shelf_port.specs.Ports.{Ports, SinkState}
 use Rattle.location_terms.specs.Instance.{Instance}
@@ -10,23 +10,31 @@ use Rattle.location_terms.specs.Plan.{Plan, IsFeasible, cost_of}
 use Rattle.location_terms.specs.Optimal.{IsOptimal, ClaimHolds}
 use Rattle.location_terms.specs.Bound.{Duals, v_at, slack_of, bound_of}
 use Rattle.location_terms.specs.Certificate.{Certificate, IsAccepted}
+use Rattle.location_terms.specs.Tree.{Tree, nodes_of, low_of}
 use Rattle.location_terms.specs.declared.claim.Claim.{Claim}
+use Rattle.location_terms.specs.declared.claim.Claim.TheVariants as claimed
 use Rattle.fixed_cost.specs.declared.fault.FileFault.{FileFault}
 use Rattle.set_walk.specs.declared.TheConstants.{MAX_WALK_SITES}
 use Rattle.dual_value.specs.Zeros.{zeros}
 use Rattle.dual_ascent.specs.Ascent.{IsAscended, IsBlocked}
+use Rattle.plan_search.specs.InBox.{HasNoCaps}
+use Rattle.branch_tree.specs.Made.{leaf_of}
+use Rattle.tree_search.specs.Grown.{IsGrownFrom, PlansWereSought}
+use Rattle.tree_search.specs.Answer.{HasFreeCount, HasOpenLeaf}
+use Rattle.tree_search.specs.declared.limits.TheConstants.{MAX_DUALS}
+use Rattle.report.specs.PlanText.{plan_text_of}
 use Rattle.certificate_lines.specs.Text.{certificate_text}
 use Rattle.certificate_lines.specs.Follow.{HasSmallCosts}
 use Rattle.certificate_lines.specs.declared.limits.TheConstants.{MAX_CERTIFICATE_BYTES}
 use Rattle.certificate_lines.specs.declared.fault.CertFault.TheVariants.{Text, TooLong}
 use Rattle.certificate_check.specs.declared.verdict.Verdict.TheVariants.{Yes, No}
 use Rattle.certificate_check.specs.Verdict.{Answer, IsAnswer}
-use Rattle.dualoc_cli.specs.declared.limits.TheConstants.{MAX_INSTANCE_BYTES}
+use Rattle.dualoc_cli.specs.declared.limits.TheConstants.{MAX_INSTANCE_BYTES, DEFAULT_BUDGET}
 use Rattle.dualoc_cli.specs.declared.status.Status.{Status}
-use Rattle.dualoc_cli.specs.declared.status.Status.TheVariants.{Done, CheckNo, Usage, ReadFault, NoMemory}
+use Rattle.dualoc_cli.specs.declared.status.Status.TheVariants.{Done, Infeasible, Bracket, CheckNo, Usage, BadInput, ReadFault, WriteFault, TooLarge, NoMemory}
 use Rattle.dualoc_cli.specs.declared.reply.Reply.{Reply}
-use Rattle.dualoc_cli.specs.declared.reply.Reply.TheVariants.{NoCommand, InstanceUnread, LongInstance, Faulty, ManySites, Optimum, Ascent, CertificateUnread, LongCertificate, Misspelt, Judged}
-use Rattle.dualoc_cli.specs.Command.{Command, OnFile, InstanceFile, Job, SolveShort, ShowDuals, Check, command_of, meaning_in}
+use Rattle.dualoc_cli.specs.declared.reply.Reply.TheVariants.{NoCommand, InstanceUnread, LongInstance, Faulty, ManySites, Optimum, LargeBudget, Unwritten, Searched, Ascent, CertificateUnread, LongCertificate, Misspelt, Judged}
+use Rattle.dualoc_cli.specs.Command.{Command, OnFile, InstanceFile, ResultFiles, Job, SolveShort, SolveLong, ShowDuals, Check, command_of, meaning_in}
 use Rattle.dualoc_cli.specs.Status.{when_cut}
 use Rattle.dualoc_cli.specs.Reply.{status_of, text_of}
 
@@ -44,6 +52,10 @@ run_of words before after = record { words = words; before = before; after = aft
 -- the count of failed reads of the named file rose
 abbrev pub FailsToRead : Run → List ℕ → Type 0
 FailsToRead r name = Rose (r.before.shelf.reads name) (r.after.shelf.reads name)
+
+-- the count of failed writes of the named file rose
+abbrev pub FailsToWrite : Run → List ℕ → Type 0
+FailsToWrite r name = Rose (r.before.shelf.writes name) (r.after.shelf.writes name)
 
 -- the words ask for this job on this file, which holds these bytes, as far as the shelf tells
 pub record AsksFor (r : Run) (file : InstanceFile) (job : Job) (bytes : List ℕ) : Type 0 where
@@ -95,6 +107,95 @@ pub record IsSolved (r : Run) (I : Instance) (P : Plan) (cost : ℕ) : Type 0 wh
   pub optimal : IsOptimal I P
   pub costs : cost ≡ cost_of I P
 
+-- the certificate is accepted, its costs are within their limit and its text is within the checker's: so a check of a file with that text says yes (`complete`, below)
+pub record DeservesYes (I : Instance) (cert : Certificate) : Type 0 where
+  pub accepted : IsAccepted I cert
+  pub small : HasSmallCosts cert.claim
+  pub within : length (certificate_text I cert) ≤ MAX_CERTIFICATE_BYTES
+
+-- the greatest budget of nodes for an instance: 20,000,000 over the number of its sites and customers, rounded down
+abbrev pub max_budget : Instance → ℕ
+max_budget I = MAX_DUALS / (length I.sites + length I.customers)
+
+-- the budget in force
+abbrev pub budget_in : Instance → Option ℕ → ℕ
+budget_in I None = min (max_budget I) DEFAULT_BUDGET
+budget_in I (Some budget) = budget
+
+-- an instance is to be solved with a budget past its greatest
+pub record HasLargeBudget (r : Run) : Type 0 where
+  pub instance : Instance
+  pub into : ResultFiles
+  pub budget : ℕ
+  pub task : HasTask r (SolveLong into (Some budget)) instance
+  pub large : max_budget instance < budget
+
+-- the instance is to be solved with this budget, and the result to be left in these files
+pub record HasSearch (r : Run) (into : ResultFiles) (I : Instance) (budget : ℕ) : Type 0 where
+  pub given : Option ℕ
+  pub task : HasTask r (SolveLong into given) I
+  pub in_force : budget ≡ budget_in I given
+  pub within : budget ≤ max_budget I
+
+-- Why a search ends with a bracket: its budget is spent, since of its nodes all but the first were made by splits, and one more split would make two more than it
+-- allows; and a leaf is open. The low end is the one that its tree shows, and a plan is missing only where capacities or the number of open sites may forbid one.
+pub record IsCutShort (I : Instance) (budget low : ℕ) (plan : Option Plan) (tree : Tree) : Type 0 where
+  pub spent : budget < nodes_of tree + 1
+  pub unfinished : HasOpenLeaf I tree plan
+  pub shown : low ≡ low_of I tree
+  pub planless : HasNoCaps I → HasFreeCount I → IsSome plan
+
+abbrev pub IsEnd : Instance → ℕ → Claim → Option Plan → Tree → Type 0
+IsEnd I budget (claimed.Optimal cost) plan tree = Unit {0}
+IsEnd I budget claimed.Infeasible plan tree = Unit {0}
+IsEnd I budget (claimed.Bracket low high) plan tree = IsCutShort I budget low plan tree
+
+-- What a search of the instance with this budget comes to: a certificate of its claim, with its plan and its tree. The claim holds, and the checker says yes to the
+-- certificate's text. The tree grew from one leaf of zeros, without a plan to begin with; its splits made no more nodes than the budget, so with the first leaf it has at
+-- most one more; and the plan costs no more than those that packing gives at its leaves.
+pub record IsFound (I : Instance) (budget : ℕ) (cert : Certificate) : Type 0 where
+  pub holds : ClaimHolds I cert.claim cert.plan
+  pub deserved : DeservesYes I cert
+  pub grown : IsGrownFrom I None (leaf_of I (zeros I 1)) cert.tree
+  pub frugal : nodes_of cert.tree ≤ budget + 1
+  pub sought : PlansWereSought I cert.tree cert.plan
+  pub end : IsEnd I budget cert.claim cert.plan cert.tree
+
+-- a search that the words ask for comes to this
+pub record HasResult (r : Run) (into : ResultFiles) (I : Instance) (budget : ℕ) (cert : Certificate) : Type 0 where
+  pub asked : HasSearch r into I budget
+  pub found : IsFound I budget cert
+
+-- A search came to this claim, with a tree of so many nodes, and both files hold their whole texts. A certificate's text is that of no other certificate (the law
+-- `one_text` of certificate_text), so the tree is the one that the file spells.
+pub record IsStored (r : Run) (claim : Claim) (nodes budget : ℕ) : Type 0 where
+  pub into : ResultFiles
+  pub instance : Instance
+  pub cert : Certificate
+  pub result : HasResult r into instance budget cert
+  pub claims : cert.claim ≡ claim
+  pub nodes_are : nodes_of cert.tree ≡ nodes
+  pub plan_held : MayHold r.after.shelf.files into.plan (plan_text_of instance claim cert.plan)
+  pub certificate_held : MayHold r.after.shelf.files into.certificate (certificate_text instance cert)
+
+-- the files are as at the start, but that of the plan may hold a front of its text
+abbrev pub IsPlanBegun : Run → ResultFiles → Instance → Certificate → Type 0
+IsPlanBegun r into I cert = LeavesPrefix r.before.shelf.files r.after.shelf.files into.plan (plan_text_of I cert.claim cert.plan)
+
+-- that of the plan holds its text, and else the files are as at the start, but that of the certificate may hold a front of its text
+abbrev pub IsCertificateBegun : Run → ResultFiles → Instance → Certificate → Type 0
+IsCertificateBegun r into I cert =
+    LeavesPrefix (with_file r.before.shelf.files into.plan (plan_text_of I cert.claim cert.plan)) r.after.shelf.files into.certificate (certificate_text I cert)
+
+-- what a search came to was to be left, and a write of the plan's file failed, or one of the certificate's file behind the whole plan
+pub record IsUnwritten (r : Run) : Type 0 where
+  pub into : ResultFiles
+  pub instance : Instance
+  pub budget : ℕ
+  pub cert : Certificate
+  pub result : HasResult r into instance budget cert
+  pub stopped : (FailsToWrite r into.plan × IsPlanBegun r into instance cert) ⊎ (FailsToWrite r into.certificate × IsCertificateBegun r into instance cert)
+
 -- The duals are those to which the ascent raises zeros, at scale 1 and where nothing is decided yet, of the instance whose duals are asked for.
 -- There is just one such ascent (the law `ascents` of dual_ascent), so this says what each number of their text is. What follows is said beside it:
 -- raising one customer's dual alone gains nothing, no number is below 0, and no feasible plan costs less than the bound.
@@ -123,12 +224,6 @@ pub record IsAnswered (r : Run) (answer : Answer) : Type 0 where
   pub held : MayHold r.before.shelf.files name bytes
   pub answered : IsAnswer MAX_CERTIFICATE_BYTES instance bytes answer
 
--- the certificate is accepted, and so the verdict on its text is yes
-pub record DeservesYes (I : Instance) (cert : Certificate) : Type 0 where
-  pub accepted : IsAccepted I cert
-  pub small : HasSmallCosts cert.claim
-  pub within : length (certificate_text I cert) ≤ MAX_CERTIFICATE_BYTES
-
 -- the certificate's file holds the text of an accepted certificate of this claim, and the claim holds
 pub record IsConfirmed (r : Run) (claim : Claim) : Type 0 where
   pub instance : Instance
@@ -148,6 +243,9 @@ IsCause r LongInstance = IsTooLong r
 IsCause r (Faulty fault) = HasFault r fault
 IsCause r ManySites = HasManySites r
 IsCause r (Optimum I P cost) = IsSolved r I P cost
+IsCause r LargeBudget = HasLargeBudget r
+IsCause r Unwritten = IsUnwritten r
+IsCause r (Searched claim nodes budget) = IsStored r claim nodes budget
 IsCause r (Ascent I d) = IsRaised r I d
 IsCause r CertificateUnread = CertificateFails r
 IsCause r LongCertificate = IsAnswered r (Err TooLong)
@@ -175,31 +273,49 @@ pub record PrintsFront (text : List ℕ) (due status : Status) (old new : SinkSt
 abbrev pub IsPrinted : List ℕ → Status → Status → SinkState → SinkState → Type 0
 IsPrinted text due status old new = PrintsWhole text due status old new ⊎ PrintsFront text due status old new
 
+abbrev pub ChangesNoFile : Run → Type 0
+ChangesNoFile r = r.after.shelf.files ≡ r.before.shelf.files
+
+-- the words, the instance or a number of it are refused, or a file can't be read
+abbrev pub IsRefusal : Status → Type 0
+IsRefusal Usage = Unit {0}
+IsRefusal BadInput = Unit {0}
+IsRefusal ReadFault = Unit {0}
+IsRefusal TooLarge = Unit {0}
+IsRefusal status = ⊥
+
 -- a run ends with a reply that has its cause
 pub record Answers (r : Run) (status : Status) : Type 0 where
   pub reply : Reply
   pub cause : IsCause r reply
+  -- where something is refused, or can't be read, no file is changed at all, whatever the output did
+  pub untouched : IsRefusal (status_of reply) → ChangesNoFile r
   pub printed : IsPrinted (text_of reply) (status_of reply) status r.before.output r.after.output
 
--- a run ends with a reply, or memory ran out before its text was there
+-- a run ends with a reply, or memory ran out before its text was there; the files of a result may then be whole already
 abbrev pub Ends : Run → Status → Type 0
 Ends r status = Answers r status ⊎ IsPrinted (codes "no memory\n") NoMemory status r.before.output r.after.output
 
 -- What a run leaves as it was.
 
-pub record ChangesNothing (before after : Ports) : Type 0 where
-  pub files : after.shelf.files ≡ before.shelf.files
-  pub input : after.input ≡ before.input
+-- what a search came to is written to the files of the result, the plan first, as far as that went
+pub record HasBegun (r : Run) (into : ResultFiles) : Type 0 where
+  pub instance : Instance
+  pub budget : ℕ
+  pub cert : Certificate
+  pub result : HasResult r into instance budget cert
+  pub left : IsPlanBegun r into instance cert ⊎ IsCertificateBegun r into instance cert
 
--- which files a job may change, and whether it reads the input
-abbrev pub Keeps : Job → Ports → Ports → Type 0
-Keeps SolveShort before after = ChangesNothing before after
-Keeps ShowDuals before after = ChangesNothing before after
-Keeps (Check certificate) before after = ChangesNothing before after
+-- which files a job may change: the long form of `solve` those of its result, and any other none
+abbrev pub Keeps : Run → Job → Type 0
+Keeps r SolveShort = ChangesNoFile r
+Keeps r (SolveLong into given) = ChangesNoFile r ⊎ HasBegun r into
+Keeps r ShowDuals = ChangesNoFile r
+Keeps r (Check certificate) = ChangesNoFile r
 
-abbrev pub Leaves : Option Command → Ports → Ports → Type 0
-Leaves None before after = ChangesNothing before after
-Leaves (Some (OnFile file job)) before after = Keeps job before after
+abbrev pub Leaves : Run → Option Command → Type 0
+Leaves r None = ChangesNoFile r
+Leaves r (Some (OnFile file job)) = Keeps r job
 
 -- What follows from how a run ends.
 
@@ -207,11 +323,28 @@ Leaves (Some (OnFile file job)) before after = Keeps job before after
 abbrev pub IsTold : Run → Type 0
 IsTold r = (files : Files) × (r.before.shelf.files ≡ Some files)
 
--- a run has another status than the one that is due: memory ran out, a read failed, or the output refused a part of the text
+-- what is printed with this status is the result of a command
+abbrev pub IsResult : Status → Type 0
+IsResult Done = Unit {0}
+IsResult Infeasible = Unit {0}
+IsResult Bracket = Unit {0}
+IsResult CheckNo = Unit {0}
+IsResult status = ⊥
+
+-- The words, and what the files hold at the start, settle that this is the reply. They don't settle that a read or a write fails, or which result a search comes to.
+abbrev pub IsSettled : Reply → Type 0
+IsSettled InstanceUnread = ⊥
+IsSettled CertificateUnread = ⊥
+IsSettled Unwritten = ⊥
+IsSettled (Searched claim nodes budget) = ⊥
+IsSettled reply = Unit {0}
+
+-- a run has another status than the one that is due: memory ran out, a read or a write of a file failed, or the output refused a part of the text
 pub data IsHindered (r : Run) (due status : Status) : Type 0 where
   MemoryRanOut : status ≡ NoMemory → IsHindered r due status
   InstanceFailed : InstanceFails r → status ≡ ReadFault → IsHindered r due status
   CertificateFailed : CertificateFails r → status ≡ ReadFault → IsHindered r due status
+  ResultFailed : IsUnwritten r → status ≡ WriteFault → IsHindered r due status
   OutputFailed : Rose r.before.output.faults r.after.output.faults → status ≡ when_cut due → IsHindered r due status
 
 abbrev pub EndsAs : Run → Status → Status → Type 0
@@ -222,9 +355,15 @@ pub record IsChecked (r : Run) (name : List ℕ) (I : Instance) (status : Status
   pub accepted : (cert : Certificate) → DeservesYes I cert → MayHold r.before.shelf.files name (certificate_text I cert) → EndsAs r Done status
   pub otherwise : (bytes : List ℕ) → MayHold r.before.shelf.files name bytes → length bytes ≤ MAX_CERTIFICATE_BYTES → (status ≡ Done) ⊎ EndsAs r CheckNo status
 
+-- What is due for a search with this budget: it ends with an optimal plan, shows that there is none, or ends with a bracket. Where no site has a capacity, a bracket
+-- comes only with a budget that not all ways to open and close the sites fit into. What hinders a run is the same for all three, so it stands with the first.
+abbrev pub EndsSearch : Run → Instance → ℕ → Status → Type 0
+EndsSearch r I budget status = EndsAs r Done status ⊎ ((status ≡ Infeasible) ⊎ ((status ≡ Bracket) × (HasNoCaps I → budget < 2 ^ (length I.sites + 1))))
+
 -- what is due for a job on an instance, where the files are told
 abbrev pub IsComplete : Run → Job → Instance → Status → Type 0
 IsComplete r SolveShort I status = length I.sites ≤ MAX_WALK_SITES → EndsAs r Done status
+IsComplete r (SolveLong into given) I status = budget_in I given ≤ max_budget I → EndsSearch r I (budget_in I given) status
 IsComplete r ShowDuals I status = EndsAs r Done status
 IsComplete r (Check name) I status = IsChecked r name I status
 
@@ -232,13 +371,18 @@ IsComplete r (Check name) I status = IsChecked r name I status
 pub record Runs (r : Run) (status : Status) : Type 0 where
   -- the status has its cause, and the output gained the text that is due with it
   pub ends : Ends r status
-  -- nothing else is changed but what the command may change
-  pub leaves : Leaves (command_of r.words) r.before r.after
-  -- So what is printed with the status Done holds: it is the text of an optimal plan, that of raised duals, or the yes to a certificate whose claim holds, all of it.
-  pub done : status ≡ Done → (reply : Reply) × IsCause r reply × (status_of reply ≡ Done) × (r.after.output.written ≡ with_back r.before.output.written (text_of reply))
+  -- no file is changed but those that the command may change, and these only as it may, also where memory ran out; the input isn't read
+  pub leaves : Leaves r (command_of r.words)
+  pub input : r.after.input ≡ r.before.input
+  -- so where something is refused, or can't be read, no file is changed at all
+  pub untouched : IsRefusal status → ChangesNoFile r
+  -- So what is printed with the status of a result holds: it is the text of an optimal plan, that of raised duals, the verdict on a certificate, or the line
+  -- of a search whose plan and certificate stand in their files; and it is all of it. The words settle which of these it is: a search's line comes in the long form
+  -- of `solve` alone, and there no other result does. A front of such a line, too, stands in the output only where both files hold their whole texts, by the cause in `ends`.
+  pub results : IsResult status → (reply : Reply) × IsCause r reply × (status_of reply ≡ status) × (r.after.output.written ≡ with_back r.before.output.written (text_of reply))
   -- Words that are no command are answered so.
   pub usage : command_of r.words ≡ None → (status ≡ Usage) ⊎ (status ≡ NoMemory)
-  -- Where the files are told, a reply whose cause is there gives the status, unless the run is hindered; a count that rose alone is no reason for a read fault.
-  pub exact : IsTold r → (reply : Reply) → IsCause r reply → status_of reply ≢ ReadFault → EndsAs r (status_of reply) status
-  -- So an instance of few sites is solved, any instance has its duals, and a certificate has its yes or its no.
+  -- Where the files are told, a reply whose cause is there gives the status, unless the run is hindered; a count that rose alone is no reason for a fault.
+  pub exact : IsTold r → (reply : Reply) → IsCause r reply → IsSettled reply → EndsAs r (status_of reply) status
+  -- So an instance of few sites is solved, any instance is searched and has its duals, and a certificate has its yes or its no.
   pub complete : IsTold r → (job : Job) (I : Instance) → HasTask r job I → IsComplete r job I status

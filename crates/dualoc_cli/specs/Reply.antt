@@ -1,20 +1,28 @@
 -- What a run answers: the status of a reply, and its text.
 use Rattle.std.specs.Prelude.{ℕ, List, ◌++◌, Some, codes, decimal}
+use Rattle.location_terms.specs.declared.claim.Claim.{Claim}
+use Rattle.location_terms.specs.declared.claim.Claim.TheVariants as claims
 use Rattle.location_terms.specs.declared.claim.Claim.TheVariants.{Optimal}
 use Rattle.fixed_cost.specs.Faults.{fault_text}
 use Rattle.fixed_cost.specs.Print.{micro_text}
 use Rattle.number_words.specs.Number.{number_text}
 use Rattle.plan_meaning.specs.PlanFault.{fault_name}
-use Rattle.report.specs.PlanText.{claim_line, plan_text_of}
+use Rattle.report.specs.PlanText.{claim_line, high_text, plan_text_of}
 use Rattle.report.specs.DualsText.{duals_text_of}
 use Rattle.certificate_lines.specs.Kind.{kind_name}
 use Rattle.certificate_check.specs.declared.verdict.Why.{Why}
 use Rattle.certificate_check.specs.declared.verdict.Why.TheVariants.{PlanRefused, CostDiffers, LeafOpen}
 use Rattle.certificate_check.specs.declared.verdict.Verdict.TheVariants.{Yes, No}
 use Rattle.dualoc_cli.specs.declared.status.Status.{Status}
-use Rattle.dualoc_cli.specs.declared.status.Status.TheVariants.{Done, CheckNo, Usage, BadInput, ReadFault, TooLarge}
+use Rattle.dualoc_cli.specs.declared.status.Status.TheVariants.{Done, Infeasible, Bracket, CheckNo, Usage, BadInput, ReadFault, WriteFault, TooLarge}
 use Rattle.dualoc_cli.specs.declared.reply.Reply.{Reply}
-use Rattle.dualoc_cli.specs.declared.reply.Reply.TheVariants.{NoCommand, InstanceUnread, LongInstance, Faulty, ManySites, Optimum, Ascent, CertificateUnread, LongCertificate, Misspelt, Judged}
+use Rattle.dualoc_cli.specs.declared.reply.Reply.TheVariants.{NoCommand, InstanceUnread, LongInstance, Faulty, ManySites, Optimum, LargeBudget, Unwritten, Searched, Ascent, CertificateUnread, LongCertificate, Misspelt, Judged}
+
+-- the status of what a search came to
+abbrev pub status_of_claim : Claim → Status
+status_of_claim (claims.Optimal cost) = Done
+status_of_claim claims.Infeasible = Infeasible
+status_of_claim (claims.Bracket low high) = Bracket
 
 abbrev pub status_of : Reply → Status
 status_of NoCommand = Usage
@@ -23,6 +31,9 @@ status_of LongInstance = TooLarge
 status_of (Faulty fault) = BadInput
 status_of ManySites = TooLarge
 status_of (Optimum I P cost) = Done
+status_of LargeBudget = TooLarge
+status_of Unwritten = WriteFault
+status_of (Searched claim nodes budget) = status_of_claim claim
 status_of (Ascent I d) = Done
 status_of CertificateUnread = ReadFault
 status_of LongCertificate = TooLarge
@@ -36,6 +47,13 @@ no_text line (PlanRefused fault) = codes "no PlanRefused line " ++ decimal line 
 no_text line (CostDiffers found) = codes "no CostDiffers line " ++ decimal line ++ codes " found " ++ micro_text found ++ codes "\n"
 no_text line (LeafOpen bound q) = codes "no LeafOpen line " ++ decimal line ++ codes " bound " ++ number_text bound ++ codes " scale " ++ decimal q ++ codes "\n"
 
+-- the line of what a search came to, with how many nodes its tree has, and the budget in force where that was spent
+abbrev pub result_line : Claim → ℕ → ℕ → List ℕ
+result_line (claims.Optimal cost) nodes budget = codes "optimal " ++ micro_text cost ++ codes " nodes " ++ decimal nodes ++ codes "\n"
+result_line claims.Infeasible nodes budget = codes "infeasible nodes " ++ decimal nodes ++ codes "\n"
+result_line (claims.Bracket low high) nodes budget =
+    codes "bracket " ++ micro_text low ++ codes " " ++ high_text high ++ codes " nodes " ++ decimal nodes ++ codes " budget " ++ decimal budget ++ codes "\n"
+
 abbrev pub text_of : Reply → List ℕ
 text_of NoCommand = codes "usage\n"
 text_of InstanceUnread = codes "read fault\n"
@@ -43,6 +61,9 @@ text_of LongInstance = codes "too large instance\n"
 text_of (Faulty fault) = codes "bad input " ++ fault_text fault ++ codes "\n"
 text_of ManySites = codes "too large sites\n"
 text_of (Optimum I P cost) = plan_text_of I (Optimal cost) (Some P)
+text_of LargeBudget = codes "too large budget\n"
+text_of Unwritten = codes "write fault\n"
+text_of (Searched claim nodes budget) = result_line claim nodes budget
 text_of (Ascent I d) = duals_text_of I d
 text_of CertificateUnread = codes "read fault\n"
 text_of LongCertificate = codes "too large certificate\n"

@@ -7,11 +7,12 @@
 mod limits;
 mod program;
 mod reply;
+mod search;
 mod status;
 mod task;
 mod text;
 mod words;
 
-pub use limits::MAX_INSTANCE_BYTES;
+pub use limits::{DEFAULT_BUDGET, MAX_INSTANCE_BYTES};
 pub use program::run;
 pub use status::Status;

@@ -1,11 +1,12 @@
 ghost use Rattle.std.specs.Prelude.{◌≡◌};
-ghost use Rattle.dualoc_cli.specs.Reply.{status_of};
+ghost use Rattle.dualoc_cli.specs.Reply.{status_of, status_of_claim};
 
 use crate::status::Status;
 use certificate_check::{CertKind, Verdict};
 use dual_value::Duals;
 use fixed_cost::FileFault;
 use instance_store::Instance;
+use location_terms::Claim;
 use plan_meaning::Plan;
 
 /// What a run answers. `docs/FORMATS.md` has the texts.
@@ -23,6 +24,17 @@ pub enum Reply {
     ManySites,
     /// An optimal plan of the instance, and its cost in millionths.
     Optimum(Instance, Plan, u64),
+    /// The budget is past the greatest one for the instance.
+    LargeBudget,
+    /// A write of the plan's file failed, or one of the certificate's file.
+    Unwritten,
+    /// What a search came to, the number of nodes of its tree, and the budget in force. The plan and the
+    /// certificate are written.
+    Searched {
+        claim: Claim,
+        nodes: u32,
+        budget: u32,
+    },
     /// The duals of an ascent of the instance from zeros, where nothing is decided yet.
     Ascent(Instance, Duals),
     /// A read of the certificate's file failed.
@@ -44,9 +56,23 @@ impl Reply {
             Reply::NoCommand => Status::Usage,
             Reply::Faulty(_) => Status::BadInput,
             Reply::InstanceUnread | Reply::CertificateUnread => Status::ReadFault,
-            Reply::LongInstance | Reply::ManySites | Reply::LongCertificate => Status::TooLarge,
+            Reply::Unwritten => Status::WriteFault,
+            Reply::LongInstance | Reply::ManySites | Reply::LargeBudget | Reply::LongCertificate =>
+                Status::TooLarge,
+            Reply::Searched { claim, .. } => status_of_claim(*claim),
             Reply::Optimum(..) | Reply::Ascent(..) | Reply::Judged(Verdict::Yes(_)) => Status::Done,
             Reply::Misspelt(..) | Reply::Judged(Verdict::No { .. }) => Status::CheckNo,
         }
+    }
+}
+
+// The status of what a search came to.
+fn status_of_claim(claim: Claim) -> Status
+    ensures { result ≡ status_of_claim claim }
+{
+    match claim {
+        Claim::Optimal(_) => Status::Done,
+        Claim::Infeasible => Status::Infeasible,
+        Claim::Bracket { .. } => Status::Bracket,
     }
 }

@@ -5,11 +5,13 @@ ghost use Rattle.shelf_port.specs.Ports.{shelf_state};
 ghost use Rattle.location_terms.specs.Plain.{IsPlain};
 ghost use Rattle.fixed_cost.specs.Reading.{Means};
 ghost use Rattle.dualoc_cli.specs.Command.{OnFile, SolveShort, ShowDuals, Check, command_of, meaning_in};
-ghost use Rattle.dualoc_cli.specs.Due.{Run, HasTask, IsCause};
+ghost use Rattle.dualoc_cli.specs.Reply.{status_of};
+ghost use Rattle.dualoc_cli.specs.Due.{Run, HasTask, Keeps, Leaves, IsCause, IsRefusal};
 ghost use Rattle.dualoc_cli.specs.Step.{asked, asked_file, asked_job, Covers};
 
 use crate::limits::MAX_INSTANCE_BYTES;
 use crate::reply::Reply;
+use crate::search::search;
 use crate::words::{Command, FileForm, InstanceFile, Job};
 use certificate_check::{CertFault, check};
 use dual_ascent::ascend;
@@ -21,13 +23,18 @@ use set_walk::{MAX_WALK_SITES, cheapest_plan};
 use shelf_port::{ReadWhole, Shelf, read_whole};
 use std::alloc::Global;
 
-/// What is answered to the words of a command line. The files are only read.
+/// What is answered to the words of a command line. The files are only read, but for those of a
+/// result.
 pub fn reply_to<H: Shelf>(alloc: Global, words: &[String], shelf: &mut H) -> Result<Reply, NoMemory>
     ensures cause { IfOk result (λ reply. (r : Run) → r.words ≡ map string_bytes words.now →
         Covers r (shelf_state (H.files shelf.old) (H.read_faults shelf.old) (H.write_faults shelf.old))
         (shelf_state (H.files shelf.new) (H.read_faults shelf.new) (H.write_faults shelf.new)) →
         IsCause r reply) }
-    ensures files { H.files shelf.new ≡ H.files shelf.old }
+    ensures keeps { (r : Run) → r.words ≡ map string_bytes words.now →
+        Covers r (shelf_state (H.files shelf.old) (H.read_faults shelf.old) (H.write_faults shelf.old))
+        (shelf_state (H.files shelf.new) (H.read_faults shelf.new) (H.write_faults shelf.new)) →
+        Leaves r (command_of r.words) }
+    ensures untouched { IfOk result (λ reply. IsRefusal (status_of reply) → H.files shelf.new ≡ H.files shelf.old) }
 {
     match Command::of(words) {
         Some(command) => answer(alloc, command, shelf),
@@ -41,7 +48,11 @@ fn answer<H: Shelf>(alloc: Global, command: Command<'_>, shelf: &mut H) -> Resul
         Covers r (shelf_state (H.files shelf.old) (H.read_faults shelf.old) (H.write_faults shelf.old))
         (shelf_state (H.files shelf.new) (H.read_faults shelf.new) (H.write_faults shelf.new)) →
         IsCause r reply) }
-    ensures files { H.files shelf.new ≡ H.files shelf.old }
+    ensures keeps { (r : Run) → command_of r.words ≡ Some (asked command.entry) →
+        Covers r (shelf_state (H.files shelf.old) (H.read_faults shelf.old) (H.write_faults shelf.old))
+        (shelf_state (H.files shelf.new) (H.read_faults shelf.new) (H.write_faults shelf.new)) →
+        Keeps r (asked_job command.entry.job) }
+    ensures untouched { IfOk result (λ reply. IsRefusal (status_of reply) → H.files shelf.new ≡ H.files shelf.old) }
 {
     let Command { file, job } = command;
     match read_whole(alloc, shelf, file.name, MAX_INSTANCE_BYTES) {
@@ -79,11 +90,17 @@ fn work<H: Shelf>(
         Covers r (shelf_state (H.files shelf.old) (H.read_faults shelf.old) (H.write_faults shelf.old))
         (shelf_state (H.files shelf.new) (H.read_faults shelf.new) (H.write_faults shelf.new)) →
         IsCause r reply) }
-    ensures files { H.files shelf.new ≡ H.files shelf.old }
+    ensures keeps { (r : Run) → HasTask r (asked_job job.entry) inst →
+        Covers r (shelf_state (H.files shelf.old) (H.read_faults shelf.old) (H.write_faults shelf.old))
+        (shelf_state (H.files shelf.new) (H.read_faults shelf.new) (H.write_faults shelf.new)) →
+        Keeps r (asked_job job.entry) }
+    ensures untouched { IfOk result (λ reply. IsRefusal (status_of reply) → H.files shelf.new ≡ H.files shelf.old) }
     ensures reads { NeverFalls (H.read_faults shelf.old) (H.read_faults shelf.new) }
+    ensures writes { NeverFalls (H.write_faults shelf.old) (H.write_faults shelf.new) }
 {
     match job {
         Job::SolveShort => solve(alloc, inst),
+        Job::SolveLong(into, given) => search(alloc, &inst, into, given, shelf),
         Job::ShowDuals => raise(alloc, inst),
         Job::Check(certificate) => judge(alloc, &inst, shelf, certificate),
     }
@@ -121,6 +138,7 @@ fn judge<H: Shelf>(
         IsCause r reply) }
     ensures files { H.files shelf.new ≡ H.files shelf.old }
     ensures reads { NeverFalls (H.read_faults shelf.old) (H.read_faults shelf.new) }
+    ensures writes { NeverFalls (H.write_faults shelf.old) (H.write_faults shelf.new) }
 {
     match check(alloc, inst, shelf, certificate) {
         Ok(verdict) => Ok(Reply::Judged(verdict)),

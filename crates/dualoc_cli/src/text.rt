@@ -1,7 +1,9 @@
 //! The texts of replies.
 ghost use Rattle.std.specs.Prelude.{◌≡◌, ◌++◌, IfOk, OnOk};
 ghost use Rattle.number_words.specs.Number.{number_text};
-ghost use Rattle.dualoc_cli.specs.Reply.{text_of, no_text};
+ghost use Rattle.fixed_cost.specs.Print.{micro_text};
+ghost use Rattle.report.specs.PlanText.{high_text};
+ghost use Rattle.dualoc_cli.specs.Reply.{text_of, result_line, no_text};
 ghost use Rattle.dualoc_cli.specs.Step.{IsPrintable};
 
 use crate::reply::Reply;
@@ -26,11 +28,18 @@ pub fn text(alloc: Global, reply: &Reply) -> Result<Vec<u8>, NoMemory>
         Reply::InstanceUnread | Reply::CertificateUnread => line(alloc, b"read fault\n"),
         Reply::LongInstance => line(alloc, b"too large instance\n"),
         Reply::ManySites => line(alloc, b"too large sites\n"),
+        Reply::LargeBudget => line(alloc, b"too large budget\n"),
+        Reply::Unwritten => line(alloc, b"write fault\n"),
         Reply::LongCertificate => line(alloc, b"too large certificate\n"),
         Reply::Faulty(fault) => faulty(alloc, *fault),
         Reply::Optimum(inst, plan, cost) => {
             plan_text(alloc, inst, &Claim::Optimal(*cost), Some(plan))
         }
+        Reply::Searched {
+            claim,
+            nodes,
+            budget,
+        } => searched(alloc, *claim, *nodes, *budget),
         Reply::Ascent(inst, duals) => duals_text(alloc, inst, duals),
         Reply::Misspelt(kind, number) => misspelt(alloc, *kind, *number),
         Reply::Judged(verdict) => judged(alloc, *verdict),
@@ -47,6 +56,61 @@ fn faulty(alloc: Global, fault: FileFault) -> Result<Vec<u8>, NoMemory>
     ensures { IfOk result (λ text. text.items ≡ text_of (Reply.Faulty fault)) }
 {
     Ok(format!(in alloc; "bad input {fault}\n")?.into_bytes())
+}
+
+fn searched(alloc: Global, claim: Claim, nodes: u32, budget: u32) -> Result<Vec<u8>, NoMemory>
+    ensures { IfOk result (λ text. text.items ≡ result_line claim nodes budget) }
+{
+    match claim {
+        Claim::Optimal(cost) => optimal(alloc, cost, nodes),
+        Claim::Infeasible => Ok(format!(in alloc; "infeasible nodes {nodes}\n")?.into_bytes()),
+        Claim::Bracket { low, high } => bracket(alloc, low, high, nodes, budget),
+    }
+}
+
+fn optimal(alloc: Global, cost: u64, nodes: u32) -> Result<Vec<u8>, NoMemory>
+    ensures { IfOk result (λ text. text.items ≡ result_line (Claim.Optimal cost) nodes 0) }
+{
+    let mut text = Vec::from_slice(alloc, b"optimal ")?;
+    push_cost(&mut text, cost)?;
+    let tail = format!(in alloc; " nodes {nodes}\n")?;
+    text.extend_from_slice(tail.as_bytes())?;
+    Ok(text)
+}
+
+fn bracket(
+    alloc: Global,
+    low: u64,
+    high: Option<u64>,
+    nodes: u32,
+    budget: u32,
+) -> Result<Vec<u8>, NoMemory>
+    ensures { IfOk result (λ text. text.items ≡ result_line (Claim.Bracket low high) nodes budget) }
+{
+    let mut text = Vec::from_slice(alloc, b"bracket ")?;
+    push_cost(&mut text, low)?;
+    text.extend_from_slice(b" ")?;
+    push_high(&mut text, high)?;
+    let tail = format!(in alloc; " nodes {nodes} budget {budget}\n")?;
+    text.extend_from_slice(tail.as_bytes())?;
+    Ok(text)
+}
+
+fn push_high(text: &mut Vec<u8>, high: Option<u64>) -> Result<(), AllocError>
+    ensures { OnOk result (text.new.items ≡ text.old.items ++ high_text high) }
+{
+    match high {
+        Some(cost) => push_cost(text, cost),
+        None => text.extend_from_slice(b"none"),
+    }
+}
+
+fn push_cost(text: &mut Vec<u8>, cost: u64) -> Result<(), AllocError>
+    ensures { OnOk result (text.new.items ≡ text.old.items ++ micro_text cost) }
+{
+    let mut buffer = [0; 24];
+    let len = print_micro(cost, &mut buffer);
+    text.extend_from_slice(&buffer[..len])
 }
 
 fn misspelt(alloc: Global, kind: CertKind, line: u64) -> Result<Vec<u8>, NoMemory>

@@ -1,7 +1,11 @@
 ghost use Rattle.std.specs.Prelude.{◌≡◌, [], ◌∷◌, map, string_bytes};
 ghost use Rattle.std.specs.Option.{option_map};
-ghost use Rattle.dualoc_cli.specs.Command.{command_of, solve_of, duals_of, check_of, are_names, form_of, plain_command};
-ghost use Rattle.dualoc_cli.specs.Step.{asked, asked_job};
+ghost use Rattle.dualoc_cli.specs.Command.{command_of, into_files, solve_of, search_of, budget_of, printed_count, duals_of, check_of, are_names, form_of, plain_command};
+ghost use Rattle.fixed_cost.specs.Amount.{count_of};
+ghost use Rattle.dualoc_cli.specs.Step.{asked, asked_job, asked_result};
+
+use fixed_cost::read_count;
+use itoa::Buffer;
 
 /// A form of instance files.
 #[derive(Clone, Copy, Debug, PartialEq, Eq)]
@@ -32,11 +36,21 @@ pub struct InstanceFile<'a> {
     pub given: Option<u64>,
 }
 
+/// The names of the files into which the result of a search is written.
+#[derive(Clone, Copy)]
+pub struct ResultFiles<'a> {
+    pub plan: &'a str,
+    pub certificate: &'a str,
+}
+
 /// What is to be done with the instance.
 #[derive(Clone, Copy)]
 pub enum Job<'a> {
     /// To solve it by a walk over all sets of sites, and to print the plan.
     SolveShort,
+    /// To solve it by a search within a budget of nodes, or one of its own where none is given, and to
+    /// write the result to these files.
+    SolveLong(ResultFiles<'a>, Option<u32>),
     /// To print the duals to which the ascent raises them where nothing is decided yet.
     ShowDuals,
     /// To check the certificate in the file of this name against it.
@@ -75,6 +89,62 @@ fn solve(words: &[String]) -> Option<Command<'_>>
         [form, file] if form.as_str() == "ufl" && !file.is_empty() => {
             Some(plain(Job::SolveShort, file.as_str(), FileForm::Ufl))
         }
+        [form, file, plan, certificate] => {
+            search(form.as_str(), file.as_str(), into(plan, certificate), None)
+        }
+        [form, file, plan, certificate, option] => {
+            let budget = budget(option.as_str())?;
+            search(
+                form.as_str(),
+                file.as_str(),
+                into(plan, certificate),
+                Some(budget),
+            )
+        }
+        _ => None,
+    }
+}
+
+// The files of a result, by their names.
+fn into<'a>(plan: &'a String, certificate: &'a String) -> ResultFiles<'a>
+    ensures { asked_result result ≡ into_files (string_bytes plan.now) (string_bytes certificate.now) }
+{
+    ResultFiles {
+        plan: plan.as_str(),
+        certificate: certificate.as_str(),
+    }
+}
+
+// The command of the long form of `solve`.
+fn search<'a>(
+    form: &str,
+    file: &'a str,
+    into: ResultFiles<'a>,
+    budget: Option<u32>,
+) -> Option<Command<'a>>
+    ensures { option_map asked result ≡ search_of form.now file.now (asked_result into.entry) budget }
+{
+    if !are_apart(file, into.plan, into.certificate) {
+        return None;
+    }
+    let form = FileForm::of(form)?;
+    Some(plain(Job::SolveLong(into, budget), file, form))
+}
+
+// The budget that an option gives, if it is one.
+fn budget(option: &str) -> Option<u32>
+    ensures { result ≡ budget_of option.now }
+{
+    let digits = option.as_bytes().strip_prefix(b"budget=")?;
+    printed_count(digits)
+}
+
+// The count that digits spell, where they are just how it is printed.
+fn printed_count(digits: &[u8]) -> Option<u32>
+    ensures { result ≡ printed_count digits.now (count_of digits.now) }
+{
+    match read_count(digits) {
+        Ok(count) if digits == Buffer::new().format(count).as_bytes() => Some(count),
         _ => None,
     }
 }
@@ -103,6 +173,13 @@ fn check(words: &[String]) -> Option<Command<'_>>
         }
         _ => None,
     }
+}
+
+// Whether the names of three files are not empty, and all different.
+fn are_apart(one: &str, other: &str, third: &str) -> bool
+    ensures { result ≡ are_names (one.now ∷ other.now ∷ third.now ∷ []) }
+{
+    !one.is_empty() && one != other && one != third && are_names(other, third)
 }
 
 // Whether the names of two files are not empty, and not the same.

@@ -6,3 +6,5 @@
 mod checks;
 #[cfg(test)]
 mod rows;
+#[cfg(test)]
+mod solves;

@@ -12,7 +12,7 @@ pub(crate) const WIDTHS: [usize; 4] = [1, 2, 7, 65_536];
 
 pub(crate) const TWO_SITES: &str = "FILE: a\n2 3 0\n1 10 1 2 9\n2 12 8 7 1\n";
 
-const ITS_PLAN: &str =
+pub(crate) const ITS_PLAN: &str =
     "dualoc-plan 1\noptimal 22.000000\nsite 1 10.000000\nserve 1 1 1.000000\nserve 2 1 2.000000\nserve 3 1 9.000000\nend\n";
 
 const ITS_DUALS: &str =
