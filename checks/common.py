@@ -60,7 +60,7 @@ def texts(original, pieces, count):
 
 
 def main(compare):
-    """Hands the program that the command line names to a check, and prints the line that it answers."""
+    """Hands the program that the command line names, and the words behind it, to a check, and prints its line."""
     random.seed(1)
     with tempfile.TemporaryDirectory() as folder:
-        print(compare(Program(sys.argv[1], folder)))
+        print(compare(Program(sys.argv[1], folder), *sys.argv[2:]))

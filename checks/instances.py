@@ -96,18 +96,23 @@ def least_cost(fixed, lanes):
                for size in range(1, len(fixed) + 1) for opened in itertools.combinations(sites, size))
 
 
-def is_cheapest(said, fixed, lanes):
-    """Whether the text is a plan's, which is feasible, costs what it says, and is as cheap as any."""
+def cost_of_plan(said, fixed, lanes):
+    """What the plan of a plan text costs, whose claim isn't looked at; nothing where it isn't a feasible plan's text."""
     opened = [int(it) for it in re.findall(r"(?m)^site ([0-9]+) ", said)]
     serve = [int(it) for it in re.findall(r"(?m)^serve [0-9]+ ([0-9]+) ", said)]
     rises = all(a < b for a, b in zip([0, *opened], [*opened, len(fixed) + 1]))
     if not rises or len(serve) != len(lanes[0]) or not {*serve} <= {*opened}:
-        return False
+        return None
     costs = [lanes[site - 1][j] for j, site in enumerate(serve)]
-    total = sum(fixed[site - 1] for site in opened) + sum(costs)
-    due = ["dualoc-plan 1", f"optimal {money(total)}", *[f"site {site} {money(fixed[site - 1])}" for site in opened],
+    due = ["dualoc-plan 1", said.splitlines()[1], *[f"site {site} {money(fixed[site - 1])}" for site in opened],
            *[f"serve {j} {site} {money(cost)}" for j, (site, cost) in enumerate(zip(serve, costs), 1)], "end", ""]
-    return said == "\n".join(due) and total == least_cost(fixed, lanes)
+    return sum(fixed[site - 1] for site in opened) + sum(costs) if said == "\n".join(due) else None
+
+
+def is_cheapest(said, fixed, lanes):
+    """Whether the text is a plan's, which is feasible, costs what it says, and is as cheap as any."""
+    total = cost_of_plan(said, fixed, lanes)
+    return total == least_cost(fixed, lanes) and said.splitlines()[1] == f"optimal {money(total)}"
 
 
 def compare(program, text):
