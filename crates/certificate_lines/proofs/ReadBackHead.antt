@@ -58,7 +58,7 @@ sizes-read I valid =
           ap (sizes_in I (sizes_line I)) line.words
           ∙ unless-passes _ _ _ (and_from _ _ (and_from _ _ (and_from _ _ refl (is_number-number_text m)) refl) (is_number-number_text n))
           ∙ unless-passes _ _ _ (and_from _ _ (and_from _ _ line.plain (is_plain_number-number_text m)) (is_plain_number-number_text n))
-          ∙ unless-passes _ _ _ (and_from _ _ (is_size-printed MAX_SITES (length I.sites) valid.some_site valid.few_sites) (is_size-printed MAX_CUSTOMERS (length I.customers) valid.some_customer valid.few_customers))
+          ∙ unless-passes _ _ _ (and_from _ _ (is_size-printed MAX_SITES (length I.sites) valid.sizes.some_site valid.sizes.few_sites) (is_size-printed MAX_CUSTOMERS (length I.customers) valid.sizes.some_customer valid.sizes.few_customers))
           ∙ unless-passes _ _ _ (and_from _ _ (same_size-printed (length I.sites)) (same_size-printed (length I.customers)));
     }
 

@@ -67,5 +67,5 @@ module _ (I : Instance) (path : Path) where
           let shares = total_le (share_of I path e) (λ _. pos MAX_AMOUNT) (length I.sites) (λ i b. share_at_most (is_opened path (site_at I i)) (is_free path (site_at I i)) (slack_of I path e i) MAX_AMOUNT (slack_small i b)) in
           let free : count_price I e.nu ≡ pos (0 * I.hi) = ap (count_price I) keeps.count_price in
           let all = bound_at_most (total (v_at e) (length I.customers)) (total (share_of I path e) (length I.sites)) (length I.sites) (length I.customers)
-          (omega (arith, ints, values, total_price (2 * MAX_AMOUNT) (length I.customers))) (omega (arith, ints, shares, total_price MAX_AMOUNT (length I.sites))) valid.few_sites valid.few_customers in
+          (omega (arith, ints, values, total_price (2 * MAX_AMOUNT) (length I.customers))) (omega (arith, ints, shares, total_price MAX_AMOUNT (length I.sites))) valid.sizes.few_sites valid.sizes.few_customers in
           omega (arith, ints, all, free)

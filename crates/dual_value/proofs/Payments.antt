@@ -101,5 +101,5 @@ module _ (I : Instance) (path : Path) (d : Duals) (valid : IsValid I) (fit : Dua
   pub left_small : (i n : ℕ) → i < length I.sites → n ≤ length I.customers → unsigned_abs (priced_cost I d i -ℤ total (paid_at I path d i) n) + MAX_VALUE ≤ MAX_SLACK
   left_small i n b few =
       let both = size-minus (priced_cost I d i) (total (paid_at I path d i) n) ((MAX_SCALE * MAX_AMOUNT + MAX_VALUE) + MAX_MULTIPLIER * MAX_AMOUNT) (MAX_VALUE * n) (priced_small i b) (paid_small i n few) in
-      let custs = valid.few_customers in
+      let custs = valid.sizes.few_customers in
       omega (arith, both, few, custs)

@@ -9,6 +9,7 @@ use Rattle.std.proofs.lemmas.Bool.Decides.{nat_tests}
 use Rattle.std.proofs.lemmas.Fmt.{digits_decimal, digits_value-decimal, decimal_nonempty}
 use Rattle.std.proofs.lemmas.List.{get_or_append_left, drop_at, drop-drop}
 use Rattle.std.proofs.lemmas.Str.Parse.{IsNumeralModel, numerals_by_value, tells_all_ascii_digits, without_leading_plus_none}
+use Rattle.location_terms.specs.declared.limits.TheConstants.{MAX_AMOUNT}
 use Rattle.fixed_cost.specs.Amount.{amount_of, count_of, is_point, whole_part, decimals, is_numeral, is_in_millionths, millionths, six_places}
 use Rattle.fixed_cost.specs.Print.{micro_text, decimals_text}
 use Rattle.fixed_cost.proofs.DigitSteps.{digit-at}
@@ -58,7 +59,7 @@ unfolding micro_text
 micro_text-is value = refl
 
 -- what is printed of an amount is read as that amount
-pub amount_of-micro_text : (value : ℕ) → value ≤ 999999999999999 → amount_of (micro_text value) ≡ Ok value
+pub amount_of-micro_text : (value : ℕ) → value ≤ MAX_AMOUNT → amount_of (micro_text value) ≡ Ok value
 amount_of-micro_text value low =
     let ds = decimal (value / 1000000) in
     let zs = drop 1 (decimals_text (value % 1000000)) in
@@ -79,7 +80,7 @@ amount_of-micro_text value low =
     let units : digits_value 10 (whole_part word) ≡ value / 1000000 = ap (digits_value 10) whole ∙ digits_value-decimal own (value / 1000000) (omega arith) in
     let rest : digits_value 10 (six_places (decimals word)) ≡ value % 1000000 = ap (λ bs. digits_value 10 (six_places bs)) part ∙ digits_value-text (value % 1000000) (omega arith) in
     let same : millionths word ≡ value = omega (arith, units, rest) in
-    let fits : nat_le (millionths word) 999999999999999 ≡ true = rw same (grind (arith, nat_tests)) in
+    let fits : nat_le (millionths word) MAX_AMOUNT ≡ true = rw same (grind (arith, nat_tests)) in
     ap amount_of printed ∙ amount_of-value word numeral fine ∙ rw (fits, same) refl
 
 -- what is printed of a count is read as that count

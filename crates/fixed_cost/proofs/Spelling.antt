@@ -5,6 +5,7 @@ use Rattle.std.specs.Str.{all_ascii_digits}
 use Rattle.std.specs.Str.Parse.{digits_value, digits_value_after}
 use Rattle.std.specs.Char.{is_ascii_digit, digit_value}
 use Rattle.std.proofs.lemmas.Bool.Decides.{nat_tests}
+use Rattle.location_terms.specs.declared.limits.TheConstants.{MAX_AMOUNT}
 use Rattle.fixed_cost.specs.declared.amount.AmountFault.{AmountFault}
 use Rattle.fixed_cost.specs.declared.amount.AmountFault.TheVariants.{NotANumber, TooFine, TooBig}
 use Rattle.fixed_cost.specs.Amount.{amount_of, count_of, whole_part, decimals, is_numeral, is_in_millionths, millionths, six_places}
@@ -80,7 +81,7 @@ pub amount_of-fine : (word : List ℕ) → is_numeral word ≡ true → is_in_mi
 unfolding amount_of
 amount_of-fine word numeral fine = rw (numeral, fine) refl
 
-pub amount_of-value : (word : List ℕ) → is_numeral word ≡ true → is_in_millionths word ≡ true → amount_of word ≡ cond (nat_le (millionths word) 999999999999999) (Ok (millionths word)) (Err TooBig)
+pub amount_of-value : (word : List ℕ) → is_numeral word ≡ true → is_in_millionths word ≡ true → amount_of word ≡ cond (nat_le (millionths word) MAX_AMOUNT) (Ok (millionths word)) (Err TooBig)
 unfolding amount_of
 amount_of-value word numeral fine = rw (numeral, fine) refl
 
@@ -115,11 +116,11 @@ is_some-capped_from value ds = by_cases (all_ascii_digits ds) (min (digits_value
     by_cases false m = refl
 
 -- an amount made of the value that was read, or none where it is too big
-pub ok_or-made : (word : List ℕ) (made : Option ℕ) (value : ℕ) → is_numeral word ≡ true → is_in_millionths word ≡ true → value ≡ min (millionths word) 1000000000000000 → SomeIff made (value ≤ 999999999999999) value → ok_or made TooBig ≡ amount_of word
+pub ok_or-made : (word : List ℕ) (made : Option ℕ) (value : ℕ) → is_numeral word ≡ true → is_in_millionths word ≡ true → value ≡ min (millionths word) 1000000000000000 → SomeIff made (value ≤ MAX_AMOUNT) value → ok_or made TooBig ≡ amount_of word
 ok_or-made word (Some x) value numeral fine read h =
-    let low : nat_le (millionths word) 999999999999999 ≡ true = grind (arith, nat_tests) in
+    let low : nat_le (millionths word) MAX_AMOUNT ≡ true = grind (arith, nat_tests) in
     let same : x ≡ millionths word = omega arith in
     sym (rw (amount_of-value word numeral fine, low) (ap (λ n. Ok n) (sym same)))
 ok_or-made word None value numeral fine read h =
-    let high : nat_le (millionths word) 999999999999999 ≡ false = grind (arith, nat_tests) in
+    let high : nat_le (millionths word) MAX_AMOUNT ≡ false = grind (arith, nat_tests) in
     sym (rw (amount_of-value word numeral fine, high) refl)

@@ -3,6 +3,7 @@ use Rattle.std.specs.Prelude.{◌==◌, ℕ, ◌+◌, ◌*◌, Bool, ◌&&◌, n
 use Rattle.std.specs.List.{before_first, after_first, list_all}
 use Rattle.std.specs.Str.{all_ascii_digits}
 use Rattle.std.specs.Str.Parse.{digits_value, without_leading_plus}
+use Rattle.location_terms.specs.declared.limits.TheConstants.{MAX_AMOUNT}
 use Rattle.fixed_cost.specs.declared.amount.AmountFault.{AmountFault}
 use Rattle.fixed_cost.specs.declared.amount.AmountFault.TheVariants.{NotANumber, TooFine, TooBig}
 
@@ -39,7 +40,7 @@ unfoldable pub amount_of : List ℕ → Result ℕ AmountFault
 amount_of word =
     if not (is_numeral word) then Err NotANumber
     else (if not (is_in_millionths word) then Err TooFine
-    else (if nat_le (millionths word) 999999999999999 then Ok (millionths word)
+    else (if nat_le (millionths word) MAX_AMOUNT then Ok (millionths word)
     else Err TooBig))
 
 -- the count that a word spells: digits alone, below 2 ^ 32

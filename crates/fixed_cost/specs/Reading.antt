@@ -63,13 +63,17 @@ size_at kind test r = do
 abbrev pub is_within : ℕ → ℕ → ℕ → Bool
 is_within low high n = nat_le low n && nat_le n high
 
--- as many things as this, one behind the other, which are numbered from k on
-unfoldable pub many_at : {A : Type 0} → (ℕ → Rest → Result (A × Rest) FileFault) → ℕ → ℕ → Rest → Result (List A × Rest) FileFault
-many_at step k zero r = Ok ([], r)
-many_at step k (suc n) r = do
-  first ← step k r
-  others ← many_at step (k + 1) n first.1
+-- as many things as this, one behind the other, where a state goes on from each to the next
+unfoldable pub many_from : {A S : Type 0} → (S → A → S) → (S → Rest → Result (A × Rest) FileFault) → S → ℕ → Rest → Result (List A × Rest) FileFault
+many_from next step s zero r = Ok ([], r)
+many_from next step s (suc n) r = do
+  first ← step s r
+  others ← many_from next step (next s first.0) n first.1
   Ok (first.0 ∷ others.0, others.1)
+
+-- the same where the state is the number of the thing, from k on
+abbrev pub many_at : {A : Type 0} → (ℕ → Rest → Result (A × Rest) FileFault) → ℕ → ℕ → Rest → Result (List A × Rest) FileFault
+many_at step k n r = many_from (λ number _. number + 1) step k n r
 
 -- what was read, where no word is left
 abbrev pub if_done : {A : Type 0} → A → List PlacedWord → Result A FileFault

@@ -5,11 +5,9 @@ ghost use Rattle.std.specs.Option.{SomeIff};
 ghost use Rattle.fixed_cost.specs.Amount.{amount_of, count_of};
 
 use crate::digits::{capped_value, first_six, is_whole_tail, read_numeral};
+use location_terms::MAX_AMOUNT;
 use std::marker::Model;
 use thiserror::Error;
-
-/// The greatest amount, in millionths of a unit.
-pub const MAX_AMOUNT: u64 = 999_999_999_999_999;
 
 /// How many millionths make a unit.
 const UNIT: u64 = 1_000_000;
@@ -22,12 +20,13 @@ pub struct Amount {
 
 impl Model for Amount {
     ghost use Rattle.std.specs.Prelude.{ℕ, ◌≤◌};
+    ghost use Rattle.location_terms.specs.declared.limits.TheConstants.{MAX_AMOUNT};
 
     ghost Value = { ℕ };
 
     ghost view = { λ a. a.micro };
 
-    ghost invariant = { λ a. a.micro ≤ 999999999999999 };
+    ghost invariant = { λ a. a.micro ≤ MAX_AMOUNT };
 
     ghost inverse = { λ n. record { micro = n } };
 }

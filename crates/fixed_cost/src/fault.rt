@@ -1,11 +1,12 @@
 //! What is wrong with a file, and where.
 
-ghost use Rattle.std.specs.Prelude.{◌≡◌, ◌≤◌, ◌^◌, length, Some};
+ghost use Rattle.std.specs.Prelude.{◌≡◌, ◌≤◌, length, Some};
 ghost use Rattle.fixed_cost.specs.Faults.{kind_name, kind_of, fault_at, ended_fault, fault_text};
 ghost use Rattle.fixed_cost.specs.Words.{placed, words_of};
 ghost use Rattle.fixed_cost.specs.declared.fault.FormFault.TheVariants.{File, NoMemory};
 
 use crate::amount::AmountFault;
+use crate::limits::MAX_INSTANCE_BYTES;
 use crate::scan::Words;
 use crate::word::Word;
 use std::alloc::{AllocError, AllocFailed};
@@ -103,10 +104,10 @@ impl FileFault {
         }
     }
 
-    /// The fault of a text of at most 2^28 bytes that ends too soon. Its place is the line of the last
+    /// The fault of a text of at most `MAX_INSTANCE_BYTES` that ends too soon. Its place is the line of the last
     /// word and one past its place, or line 1, word 1 where there is no word.
     pub fn ended(bytes: &[u8]) -> FileFault
-        requires { length bytes.now ≤ 2 ^ 28 }
+        requires { length bytes.now ≤ MAX_INSTANCE_BYTES }
         ensures { result ≡ ended_fault (words_of bytes.now) }
     {
         let mut fault = FileFault {

@@ -7,15 +7,18 @@
 mod amount;
 mod digits;
 mod fault;
+mod limits;
 mod print;
 mod reader;
 mod scan;
 mod word;
 
-pub use amount::{Amount, AmountFault, MAX_AMOUNT, read_count};
+pub use amount::{Amount, AmountFault, read_count};
 pub use fault::{FileFault, FileKind, FormFault};
+pub use limits::MAX_INSTANCE_BYTES;
+pub use location_terms::MAX_AMOUNT;
 pub use print::print_micro;
-pub use reader::WordReader;
+pub use reader::{WordReader, amount_in};
 pub use scan::Words;
 pub use word::Word;
 

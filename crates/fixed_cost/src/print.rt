@@ -4,8 +4,8 @@ ghost use Rattle.std.specs.Prelude.{◌≡◌, ◌+◌, ◌/◌, ◌%◌, ◌≤
 ghost use Rattle.fixed_cost.specs.Amount.{amount_of};
 ghost use Rattle.fixed_cost.specs.Print.{micro_text, decimals_text};
 
-use crate::amount::MAX_AMOUNT;
 use itoa::Buffer;
+use location_terms::MAX_AMOUNT;
 
 /// Writes millionths at the front as text, and answers its length: the whole part without leading
 /// zeros, a point, and six digits. So 22,000,000 is `22.000000`.

@@ -1,12 +1,13 @@
 //! Reading the words of a text in order.
 
-ghost use Rattle.std.specs.Prelude.{◌≡◌, ◌==◌, ◌≤◌, ◌^◌, length, option_map, slice_get, IfOk};
+ghost use Rattle.std.specs.Prelude.{◌≡◌, ◌==◌, ◌≤◌, length, option_map, slice_get, IfOk};
 ghost use Rattle.fixed_cost.specs.Amount.{amount_of};
 ghost use Rattle.fixed_cost.specs.Words.{placed, words_of};
 ghost use Rattle.fixed_cost.specs.Reading.{all_of, word_at, in_word, amount_at, size_at, size_in, is_within, finished, behind, untitled, Reads};
 
 use crate::amount::Amount;
 use crate::fault::{FileFault, FileKind};
+use crate::limits::MAX_INSTANCE_BYTES;
 use crate::scan::Words;
 use crate::word::Word;
 use std::marker::Model;
@@ -30,10 +31,10 @@ impl<'a> Model for WordReader<'a> {
 }
 
 impl<'a> WordReader<'a> {
-    /// A reader of a text of at most 2^28 bytes.
+    /// A reader of a text of at most `MAX_INSTANCE_BYTES`.
     #[tactic(auto, using(crate::proofs::Ends::end_after_first))]
     pub fn new(bytes: &'a [u8]) -> WordReader<'a>
-        requires { length bytes.now ≤ 2 ^ 28 }
+        requires { length bytes.now ≤ MAX_INSTANCE_BYTES }
         ensures { result ≡ all_of (words_of bytes.now) }
     {
         WordReader {
@@ -132,7 +133,7 @@ impl<'a> WordReader<'a> {
 }
 
 /// The amount that a word spells, or its fault at the place of the word.
-fn amount_in(word: Word<'_>) -> Result<Amount, FileFault>
+pub fn amount_in(word: Word<'_>) -> Result<Amount, FileFault>
     ensures { result ≡ in_word (placed word.entry) (amount_of word.entry.text.now) }
 {
     match Amount::read(word.text) {

@@ -1,11 +1,12 @@
 //! The words of a text, one after another.
 
-ghost use Rattle.std.specs.Prelude.{◌≡◌, ◌-◌, ◌<◌, ◌≤◌, ◌^◌, false, length, drop, slice_index};
+ghost use Rattle.std.specs.Prelude.{◌≡◌, ◌-◌, ◌<◌, ◌≤◌, false, length, drop, slice_index};
 ghost use Rattle.std.specs.List.{position_or_len};
 ghost use Rattle.std.specs.Iterator.{YieldsFirstBy, item_count};
 ghost use Rattle.fixed_cost.specs.Words.{placed, is_blank, words_of};
 ghost use Rattle.fixed_cost.specs.Scan.{words_left, HasRoom};
 
+use crate::limits::MAX_INSTANCE_BYTES;
 use crate::word::Word;
 use std::marker::Model;
 
@@ -31,9 +32,9 @@ impl<'a> Model for Words<'a> {
 }
 
 impl<'a> Words<'a> {
-    /// The words of a text of at most 2^28 bytes.
+    /// The words of a text of at most `MAX_INSTANCE_BYTES`.
     pub fn new(bytes: &'a [u8]) -> Words<'a>
-        requires { length bytes.now ≤ 2 ^ 28 }
+        requires { length bytes.now ≤ MAX_INSTANCE_BYTES }
         ensures { result ≡ words_of bytes.now }
     {
         Words {

@@ -1,3 +1,6 @@
 pub mod PlaceLemmas
 pub mod StoredLemmas
 pub mod StatusLemmas
+pub mod PlainParts
+pub mod NumberedLists
+pub mod ColumnSteps

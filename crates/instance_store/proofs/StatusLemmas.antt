@@ -4,9 +4,9 @@ use Rattle.std.proofs.lemmas.List.{length-set, length-map, get_or-map, map-set}
 use Rattle.std.proofs.lemmas.List.Elements.{All-set}
 use Rattle.std.proofs.Math.Seq.{map-set_same}
 use Rattle.std.specs.Vec.{with_item}
-use Rattle.location_terms.specs.declared.limits.TheConstants.{MAX_AMOUNT, MAX_SITES, MAX_LANES}
+use Rattle.location_terms.specs.declared.limits.TheConstants.{MAX_AMOUNT}
 use Rattle.location_terms.specs.declared.status.SiteStatus.{SiteStatus}
-use Rattle.location_terms.specs.Instance.{Instance, Site, AreIds, IsValid, site_ids, site_at, lanes_of}
+use Rattle.location_terms.specs.Instance.{Instance, Site, AreIds, AreSizes, IsValid, site_ids, site_at, lanes_of}
 use Rattle.instance_store.specs.declared.instance.StoredSite.{StoredSite}
 use Rattle.instance_store.specs.declared.instance.Instance.TheInside.{Inside}
 use Rattle.instance_store.specs.Parts.{customer_of, cust_row_ids}
@@ -28,11 +28,7 @@ IsValid-with_status I i status within valid =
       fixed_small = All-set (λ (s : Site). s.fixed ≤ MAX_AMOUNT) I.sites i changed (valid.fixed_small i _ within) valid.fixed_small;
       caps_small = All-set (λ (s : Site). IfSome s.cap (λ cap. cap ≤ MAX_AMOUNT)) I.sites i changed (valid.caps_small i _ within) valid.caps_small;
       demands_small = valid.demands_small;
-      some_site = subst (λ n. 1 ≤ n) (sym count) valid.some_site;
-      few_sites = subst (λ n. n ≤ MAX_SITES) (sym count) valid.few_sites;
-      some_customer = valid.some_customer;
-      few_customers = valid.few_customers;
-      few_lanes = subst (λ n. n * length I.customers ≤ MAX_LANES) (sym count) valid.few_lanes;
+      sizes = subst (λ m. AreSizes m (length I.customers)) (sym count) valid.sizes;
       count_order = valid.count_order;
       count_small = valid.count_small;
     }

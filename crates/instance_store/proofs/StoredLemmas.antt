@@ -5,9 +5,9 @@ use Rattle.std.proofs.lemmas.List.Elements.{All-map}
 use Rattle.std.proofs.lemmas.Option.{IfSome_then}
 use Rattle.std.proofs.lemmas.Simd.{map-map}
 use Rattle.std.specs.List.Sorted.{IsStrictlyIncreasing}
-use Rattle.location_terms.specs.declared.limits.TheConstants.{MAX_AMOUNT, MAX_SITES, MAX_CUSTOMERS, MAX_LANES}
+use Rattle.location_terms.specs.declared.limits.TheConstants.{MAX_AMOUNT}
 use Rattle.location_terms.specs.declared.status.SiteStatus.TheVariants.{Free}
-use Rattle.location_terms.specs.Instance.{Instance, Site, Customer, AreIds, IsValid, site_ids, customer_ids, site_at, customer_at, lane, lanes_of}
+use Rattle.location_terms.specs.Instance.{Instance, Site, Customer, AreIds, IsValid, site_ids, customer_ids, site_at, customer_at, lane, lanes_of, AreSizes}
 use Rattle.location_terms.proofs.Places.{length-site_ids, length-customer_ids, slice_index-site_ids, slice_index-customer_ids}
 use Rattle.location_terms.proofs.Table.{IsTable, get-lanes_of, map-lanes_of, lanes_of_known, lanes_of_all}
 use Rattle.instance_store.specs.declared.rows.SiteRow.{SiteRow}
@@ -152,11 +152,7 @@ module _ (lo hi next_site next_cust : ℕ) (custs : List CustRow) (sites : List 
         fixed_small = All-map (λ s. s.fixed ≤ MAX_AMOUNT) (site_of Free) sites parts.fixed_small;
         caps_small = All-map (λ s. IsSmall s.cap) (site_of Free) sites parts.caps_small;
         demands_small = All-map (λ c. c.demand ≤ MAX_AMOUNT) customer_of custs parts.demands_small;
-        some_site = subst (λ n. 1 ≤ n) (sym site_count) parts.some_site;
-        few_sites = subst (λ n. n ≤ MAX_SITES) (sym site_count) parts.few_sites;
-        some_customer = subst (λ n. 1 ≤ n) (sym cust_count) parts.some_customer;
-        few_customers = subst (λ n. n ≤ MAX_CUSTOMERS) (sym cust_count) parts.few_customers;
-        few_lanes = subst (λ n. n * length (map customer_of custs) ≤ MAX_LANES) (sym site_count) (subst (λ n. length sites * n ≤ MAX_LANES) (sym cust_count) parts.few_lanes);
+        sizes = subst (λ m. AreSizes m (length (map customer_of custs))) (sym site_count) (subst (AreSizes (length sites)) (sym cust_count) parts.sizes);
         count_order = parts.count_order;
         count_small = parts.count_small;
       }

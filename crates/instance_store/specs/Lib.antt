@@ -1,6 +1,7 @@
 pub mod Small
 pub mod Lanes
 pub mod Parts
+pub mod Numbered
 pub mod Places
 pub mod Stored
 pub mod Statuses

@@ -1,9 +1,9 @@
 -- The parts that an instance is made of, as rows by place, and the instance that they make.
-use Rattle.std.specs.Prelude.{◌≡◌, ℕ, ◌*◌, ◌≤◌, List, map, length, All}
-use Rattle.location_terms.specs.declared.limits.TheConstants.{MAX_AMOUNT, MAX_SITES, MAX_CUSTOMERS, MAX_LANES}
+use Rattle.std.specs.Prelude.{◌≡◌, ℕ, ◌≤◌, List, map, length, All}
+use Rattle.location_terms.specs.declared.limits.TheConstants.{MAX_AMOUNT, MAX_SITES}
 use Rattle.location_terms.specs.declared.status.SiteStatus.{SiteStatus}
 use Rattle.location_terms.specs.declared.status.SiteStatus.TheVariants.{Free}
-use Rattle.location_terms.specs.Instance.{Instance, Site, Customer, AreIds, lanes_of}
+use Rattle.location_terms.specs.Instance.{Instance, Site, Customer, AreIds, AreSizes, lanes_of}
 use Rattle.instance_store.specs.declared.rows.CustRow.{CustRow}
 use Rattle.instance_store.specs.declared.rows.SiteRow.{SiteRow}
 use Rattle.instance_store.specs.Small.{IsSmall, AreSmall}
@@ -42,10 +42,6 @@ pub record AreParts (lo hi next_site next_cust : ℕ) (custs : List CustRow) (si
   pub fixed_small : All (λ s. s.fixed ≤ MAX_AMOUNT) sites
   pub caps_small : All (λ s. IsSmall s.cap) sites
   pub demands_small : All (λ c. c.demand ≤ MAX_AMOUNT) custs
-  pub some_site : 1 ≤ length sites
-  pub few_sites : length sites ≤ MAX_SITES
-  pub some_customer : 1 ≤ length custs
-  pub few_customers : length custs ≤ MAX_CUSTOMERS
-  pub few_lanes : length sites * length custs ≤ MAX_LANES
+  pub sizes : AreSizes (length sites) (length custs)
   pub count_order : lo ≤ hi
   pub count_small : hi ≤ MAX_SITES

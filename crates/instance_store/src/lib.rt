@@ -6,11 +6,13 @@
 mod index;
 mod instance;
 mod memory;
+mod numbered;
 mod rows;
 
 pub use instance::Instance;
 pub use location_terms::{CustId, SiteId, SiteStatus};
 pub use memory::NoMemory;
+pub use numbered::{CustLanes, ListedSite, SiteLanes};
 pub use rows::{CustRow, LaneRow, SiteRow};
 
 #[cfg(test)]

@@ -131,3 +131,72 @@ fn settles_a_site(rt: HostRuntime) -> Result<(), Fail> {
     assert!(rt; is_example_but_settled(&inst));
     Ok(())
 }
+
+const NEAR: ListedSite = ListedSite {
+    fixed: 10,
+    cap: None,
+};
+
+const FAR: ListedSite = ListedSite {
+    fixed: 12,
+    cap: Some(5),
+};
+
+// Two sites and three customers without a demand, with a row of lanes for each site.
+fn by_site(alloc: Global) -> Result<Instance, NoMemory> {
+    let near = LaneRow::from_slice(alloc, &[Some(1), None, Some(9)])?;
+    let far = LaneRow::from_slice(alloc, &[Some(8), Some(7), Some(3)])?;
+    let sites = vec![in alloc;
+        SiteLanes {
+            site: NEAR,
+            lanes: near
+        },
+        SiteLanes {
+            site: FAR,
+            lanes: far
+        },
+    ]?;
+    let demands = vec![in alloc; 0, 0, 6]?;
+    Instance::numbered_by_site(alloc, sites, demands)
+}
+
+// The same with a row of lanes for each customer.
+fn by_customer(alloc: Global) -> Result<Instance, NoMemory> {
+    let custs = vec![in alloc;
+        CustLanes {
+            demand: 0,
+            lanes: LaneRow::from_slice(alloc, &[Some(1), Some(8)])?
+        },
+        CustLanes {
+            demand: 0,
+            lanes: LaneRow::from_slice(alloc, &[None, Some(7)])?
+        },
+        CustLanes {
+            demand: 6,
+            lanes: LaneRow::from_slice(alloc, &[Some(9), Some(3)])?
+        },
+    ]?;
+    Instance::numbered_by_customer(alloc, vec![in alloc; NEAR, FAR]?, custs)
+}
+
+// Whether the instance is the one of the lists.
+fn is_numbered(inst: &Instance) -> bool {
+    inst.count() == (0, 3_000)
+        && inst.next_ids() == (3, 4)
+        && has_statuses(inst, SiteStatus::Free, SiteStatus::Free)
+        && has_site(inst, 0, 1, 10, None)
+        && has_site(inst, 1, 2, 12, Some(5))
+        && has_customer(inst, 0, 1, 0)
+        && has_customer(inst, 2, 3, 6)
+        && has_lanes(inst, 0, [Some(1), None, Some(9)])
+        && has_lanes(inst, 1, [Some(8), Some(7), Some(3)])
+}
+
+#[test]
+fn numbers_lists_by_site_and_by_customer(rt: HostRuntime) -> Result<(), Fail> {
+    let inst = by_site(rt.alloc())?;
+    assert!(rt; is_numbered(&inst));
+    let inst = by_customer(rt.alloc())?;
+    assert!(rt; is_numbered(&inst));
+    Ok(())
+}

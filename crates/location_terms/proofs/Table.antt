@@ -1,7 +1,9 @@
 -- A table of lane costs has a row for each site and in it an entry for each customer. Here: look-up by ids is look-up by places.
 use Rattle.std.proofs.Common.{◌≡◌, ℕ, zero, suc, ◌<◌, Bool, true, false, cond, List, [], ◌∷◌, ◌++◌, map, length, All, AllPairs, Contains, Option, None, Some, IfSome, IsSome, is_some, slice_index, slice_index_or, refl, sym, ap, subst, ◌∙◌, arith}
 use Rattle.std.proofs.lemmas.List.{length-map, get_or-map, get_or_default, same_lists}
-use Rattle.std.proofs.lemmas.List.Elements.{All-nil, All-cons, All-head, All-tail, All-append, All-contains, Contains-get_or, Contains-append_right}
+use Rattle.std.proofs.lemmas.List.Elements.{All-nil, All-cons, All-head, All-tail, All-append, All-contains, Contains-get_or, Contains-append_right, All-map}
+use Rattle.std.proofs.lemmas.List.FromFn.{length-map-range_with_len, get_or-map-range_with_len}
+use Rattle.std.specs.List.{range_with_len}
 use Rattle.std.proofs.lemmas.List.Kept.{AllPairs-from_increasing}
 use Rattle.std.proofs.lemmas.Option.{IfSome_then}
 use Rattle.std.proofs.lemmas.Map.Lookups.{CmpEqualImpliesEq, exact_pairs, exact_unsigned}
@@ -12,7 +14,7 @@ use Rattle.std.specs.Ordering.{nat_cmp, is_eq, eq_by_cmp}
 use Rattle.std.specs.declared.cmp.Ordering.{Ordering}
 use Rattle.std.specs.declared.cmp.Ordering.TheVariants.{Less, Equal, Greater}
 use Rattle.std.specs.FinMap.{get, find, get-from_entries, same_map}
-use Rattle.location_terms.specs.Instance.{Lanes, pair_cmp, row_entries, table_entries, lanes_of}
+use Rattle.location_terms.specs.Instance.{Lanes, pair_cmp, row_entries, table_entries, table_lanes, lanes_of, lanes_by_customer}
 
 -- pairs that compare alike are one
 pub pair_cmp-exact : CmpEqualImpliesEq pair_cmp
@@ -45,27 +47,27 @@ find_holds P (e ∷ es) q all = by (eq_by_cmp pair_cmp q e.0) refl (find_holds P
     by true same _ = subst (λ p. P p e.1) (sym (pair_cmp-exact q e.0 (tied _ same))) (All-head (λ e. P e.0 e.1) e es all)
     by false _ rest = rest
 
-row_entries_hold : (P : ℕ × ℕ → ℕ → Type 0) (s : ℕ) (cs : List ℕ) (row : List (Option ℕ)) → ((c cost : ℕ) → Contains cs c → Contains row (Some cost) → P (s, c) cost) → All (λ e. P e.0 e.1) (row_entries s cs row)
-row_entries_hold P s [] row h = All-nil _
-row_entries_hold P s (c ∷ cs) [] h = All-nil _
-row_entries_hold P s (c ∷ cs) (None ∷ row) h = row_entries_hold P s cs row (λ d cost i k. h d cost (Contains-later c cs d i) (Contains-later None row (Some cost) k))
-row_entries_hold P s (c ∷ cs) (Some cost ∷ row) h =
-    All-cons (λ e. P e.0 e.1) ((s, c), cost) (row_entries s cs row) (h c cost (Contains-first c cs) (Contains-first (Some cost) row))
-    (row_entries_hold P s cs row (λ d n i k. h d n (Contains-later c cs d i) (Contains-later (Some cost) row (Some n) k)))
+row_entries_hold : (P : ℕ × ℕ → ℕ → Type 0) (pair : ℕ → ℕ × ℕ) (cs : List ℕ) (row : List (Option ℕ)) → ((c cost : ℕ) → Contains cs c → Contains row (Some cost) → P (pair c) cost) → All (λ e. P e.0 e.1) (row_entries pair cs row)
+row_entries_hold P pair [] row h = All-nil _
+row_entries_hold P pair (c ∷ cs) [] h = All-nil _
+row_entries_hold P pair (c ∷ cs) (None ∷ row) h = row_entries_hold P pair cs row (λ d cost i k. h d cost (Contains-later c cs d i) (Contains-later None row (Some cost) k))
+row_entries_hold P pair (c ∷ cs) (Some cost ∷ row) h =
+    All-cons (λ e. P e.0 e.1) (pair c, cost) (row_entries pair cs row) (h c cost (Contains-first c cs) (Contains-first (Some cost) row))
+    (row_entries_hold P pair cs row (λ d n i k. h d n (Contains-later c cs d i) (Contains-later (Some cost) row (Some n) k)))
 
-table_entries_hold : (P : ℕ × ℕ → ℕ → Type 0) (ss cs : List ℕ) (rows : List (List (Option ℕ))) → ((s c cost : ℕ) (row : List (Option ℕ)) → Contains ss s → Contains cs c → Contains rows row → Contains row (Some cost) → P (s, c) cost) → All (λ e. P e.0 e.1) (table_entries ss cs rows)
-table_entries_hold P [] cs rows h = All-nil _
-table_entries_hold P (s ∷ ss) cs [] h = All-nil _
-table_entries_hold P (s ∷ ss) cs (row ∷ rows) h =
-    All-append (λ e. P e.0 e.1) (row_entries s cs row) (table_entries ss cs rows)
-    (row_entries_hold P s cs row (λ c cost i k. h s c cost row (Contains-first s ss) i (Contains-first row rows) k))
-    (table_entries_hold P ss cs rows (λ t c cost r i j k l. h t c cost r (Contains-later s ss t i) j (Contains-later row rows r k) l))
+table_entries_hold : (P : ℕ × ℕ → ℕ → Type 0) (pair : ℕ → ℕ → ℕ × ℕ) (ss cs : List ℕ) (rows : List (List (Option ℕ))) → ((s c cost : ℕ) (row : List (Option ℕ)) → Contains ss s → Contains cs c → Contains rows row → Contains row (Some cost) → P (pair s c) cost) → All (λ e. P e.0 e.1) (table_entries pair ss cs rows)
+table_entries_hold P pair [] cs rows h = All-nil _
+table_entries_hold P pair (s ∷ ss) cs [] h = All-nil _
+table_entries_hold P pair (s ∷ ss) cs (row ∷ rows) h =
+    All-append (λ e. P e.0 e.1) (row_entries (pair s) cs row) (table_entries pair ss cs rows)
+    (row_entries_hold P (pair s) cs row (λ c cost i k. h s c cost row (Contains-first s ss) i (Contains-first row rows) k))
+    (table_entries_hold P pair ss cs rows (λ t c cost r i j k l. h t c cost r (Contains-later s ss t i) j (Contains-later row rows r k) l))
 
 find_none : (P : ℕ × ℕ → ℕ → Type 0) (es : List ((ℕ × ℕ) × ℕ)) (q : ℕ × ℕ) → All (λ e. P e.0 e.1) es → ((cost : ℕ) → P q cost → ⊥) → find pair_cmp q es ≡ None
 find_none P es q all never = none_from_never _ (IfSome_then _ (find_holds P es q all) never)
 
-lanes_of_hold : (P : ℕ × ℕ → ℕ → Type 0) (ss cs : List ℕ) (rows : List (List (Option ℕ))) → ((s c cost : ℕ) (row : List (Option ℕ)) → Contains ss s → Contains cs c → Contains rows row → Contains row (Some cost) → P (s, c) cost) → (q : ℕ × ℕ) → IfSome (get (lanes_of ss cs rows) q) (P q)
-lanes_of_hold P ss cs rows h q = subst (λ o. IfSome o (P q)) (sym (get-from_entries pair_cmp-total (table_entries ss cs rows) q)) (find_holds P (table_entries ss cs rows) q (table_entries_hold P ss cs rows h))
+table_holds : (P : ℕ × ℕ → ℕ → Type 0) (pair : ℕ → ℕ → ℕ × ℕ) (ss cs : List ℕ) (rows : List (List (Option ℕ))) → ((s c cost : ℕ) (row : List (Option ℕ)) → Contains ss s → Contains cs c → Contains rows row → Contains row (Some cost) → P (pair s c) cost) → (q : ℕ × ℕ) → IfSome (get (table_lanes pair ss cs rows) q) (P q)
+table_holds P pair ss cs rows h q = subst (λ o. IfSome o (P q)) (sym (get-from_entries pair_cmp-total (table_entries pair ss cs rows) q)) (find_holds P (table_entries pair ss cs rows) q (table_entries_hold P pair ss cs rows h))
 
 -- a test of equal numbers passes, and one of different numbers fails
 pair_tied : (p : ℕ × ℕ) → eq_by_cmp pair_cmp p p ≡ true
@@ -97,49 +99,58 @@ All-pairs_head x xs pairs k d lt = pairs 0 (suc k) d (omega arith) (omega arith)
 All-pairs_tail : (x : ℕ) (xs : List ℕ) → AllPairs (λ a b. a < b) (x ∷ xs) → AllPairs (λ a b. a < b) xs
 All-pairs_tail x xs pairs i j d below within = pairs (suc i) (suc j) d (omega arith) (omega arith)
 
--- a row at a customer's id is the row at the customer's place
-find-row_entries : (s : ℕ) (cs : List ℕ) (row : List (Option ℕ)) (j : ℕ) → AllPairs (λ a b. a < b) cs → length row ≡ length cs → j < length cs → find pair_cmp (s, slice_index cs j) (row_entries s cs row) ≡ slice_index_or row j None
-find-row_entries s [] row j rise same within = absurd (omega arith)
-find-row_entries s (c ∷ cs) [] j rise same within = absurd (omega arith)
-find-row_entries s (c ∷ cs) (None ∷ row) zero rise same within =
-    find_none (λ p _. Contains cs p.1) (row_entries s cs row) (s, c) (row_entries_hold (λ p _. Contains cs p.1) s cs row (λ d _ k _. k))
-    (λ _ k. let below = All-contains (λ d. c < d) cs c (All-pairs_head c cs rise) k in omega (arith, below))
-find-row_entries s (c ∷ cs) (Some cost ∷ row) zero rise same within = ap (λ b. cond b (Some cost) (find pair_cmp (s, c) (row_entries s cs row))) (pair_tied (s, c))
-find-row_entries s (c ∷ cs) (None ∷ row) (suc j) rise same within = find-row_entries s cs row j (All-pairs_tail c cs rise) (omega arith) (omega arith)
-find-row_entries s (c ∷ cs) (Some cost ∷ row) (suc j) rise same within =
-    let below = All-pairs_head c cs rise j 0 (omega arith) in
-    ap (λ b. cond b (Some cost) (find pair_cmp (s, slice_index cs j) (row_entries s cs row)))
-    (pair_apart (s, slice_index cs j) (s, c) (λ e. let same_id = ap (λ p. p.1) e in omega (arith, below, same_id)))
-    ∙ find-row_entries s cs row j (All-pairs_tail c cs rise) (omega arith) (omega arith)
-
--- ids of sites and of customers that rise, a row for each site, and in it an entry for each customer
+-- ids that rise on both sides, a row for each of the first, and in it an entry for each of the second: sites and customers, or the other way round
 pub record IsTable (ss cs : List ℕ) (rows : List (List (Option ℕ))) : Type 0 where
   pub sites_rise : IsStrictlyIncreasing ss
   pub customers_rise : IsStrictlyIncreasing cs
   pub row_each : length rows ≡ length ss
   pub entry_each : All (λ row. length row ≡ length cs) rows
 
-find-table_entries : (ss cs : List ℕ) (rows : List (List (Option ℕ))) (i j : ℕ) → AllPairs (λ a b. a < b) ss → AllPairs (λ a b. a < b) cs → length rows ≡ length ss → All (λ row. length row ≡ length cs) rows → i < length ss → j < length cs
-    → find pair_cmp (slice_index ss i, slice_index cs j) (table_entries ss cs rows) ≡ slice_index_or (slice_index_or rows i []) j None
-find-table_entries [] cs rows i j up rise same wide within inside = absurd (omega arith)
-find-table_entries (s ∷ ss) cs [] i j up rise same wide within inside = absurd (omega arith)
-find-table_entries (s ∷ ss) cs (row ∷ rows) zero j up rise same wide within inside =
-    find-none_append (row_entries s cs row) (table_entries ss cs rows) (s, slice_index cs j)
-    (find_none (λ p _. Contains ss p.0) (table_entries ss cs rows) (s, slice_index cs j) (table_entries_hold (λ p _. Contains ss p.0) ss cs rows (λ t c cost r k _ _ _. k))
-    (λ _ k. let below = All-contains (λ t. s < t) ss s (All-pairs_head s ss up) k in omega (arith, below)))
-    ∙ find-row_entries s cs row j rise (All-head (λ r. length r ≡ length cs) row rows wide) inside
-find-table_entries (s ∷ ss) cs (row ∷ rows) (suc i) j up rise same wide within inside =
-    let below = All-pairs_head s ss up i 0 (omega arith) in
-    find-append_none (row_entries s cs row) (table_entries ss cs rows) (slice_index ss i, slice_index cs j)
-    (find_none (λ p _. p.0 ≡ s) (row_entries s cs row) (slice_index ss i, slice_index cs j) (row_entries_hold (λ p _. p.0 ≡ s) s cs row (λ _ _ _ _. refl)) (λ _ e. omega (arith, below, e)))
-    ∙ find-table_entries ss cs rows i j (All-pairs_tail s ss up) rise (omega arith) (All-tail (λ r. length r ≡ length cs) row rows wide) (omega arith) inside
+-- a pair is read back as the id of its row and the id of its entry
+module _ (pair : ℕ → ℕ → ℕ × ℕ) (row_of entry_of : ℕ × ℕ → ℕ) (row_is : (s c : ℕ) → row_of (pair s c) ≡ s) (entry_is : (s c : ℕ) → entry_of (pair s c) ≡ c) where
+  -- a row at an id is the row at the id's place
+  find-row_entries : (s : ℕ) (cs : List ℕ) (row : List (Option ℕ)) (j : ℕ) → AllPairs (λ a b. a < b) cs → length row ≡ length cs → j < length cs → find pair_cmp (pair s (slice_index cs j)) (row_entries (pair s) cs row) ≡ slice_index_or row j None
+  find-row_entries s [] row j rise same within = absurd (omega arith)
+  find-row_entries s (c ∷ cs) [] j rise same within = absurd (omega arith)
+  find-row_entries s (c ∷ cs) (None ∷ row) zero rise same within =
+      find_none (λ p _. Contains cs (entry_of p)) (row_entries (pair s) cs row) (pair s c)
+      (row_entries_hold (λ p _. Contains cs (entry_of p)) (pair s) cs row (λ d _ k _. subst (Contains cs) (sym (entry_is s d)) k))
+      (λ _ k. let below = All-contains (λ d. c < d) cs (entry_of (pair s c)) (All-pairs_head c cs rise) k in omega (arith, below, entry_is s c))
+  find-row_entries s (c ∷ cs) (Some cost ∷ row) zero rise same within = ap (λ b. cond b (Some cost) (find pair_cmp (pair s c) (row_entries (pair s) cs row))) (pair_tied (pair s c))
+  find-row_entries s (c ∷ cs) (None ∷ row) (suc j) rise same within = find-row_entries s cs row j (All-pairs_tail c cs rise) (omega arith) (omega arith)
+  find-row_entries s (c ∷ cs) (Some cost ∷ row) (suc j) rise same within =
+      let below = All-pairs_head c cs rise j 0 (omega arith) in
+      ap (λ b. cond b (Some cost) (find pair_cmp (pair s (slice_index cs j)) (row_entries (pair s) cs row)))
+      (pair_apart (pair s (slice_index cs j)) (pair s c) (λ e. let same_id = ap entry_of e in omega (arith, below, same_id, entry_is s (slice_index cs j), entry_is s c)))
+      ∙ find-row_entries s cs row j (All-pairs_tail c cs rise) (omega arith) (omega arith)
 
--- what the map of a table has at two ids is the entry at their places
+  find-table_entries : (ss cs : List ℕ) (rows : List (List (Option ℕ))) (i j : ℕ) → AllPairs (λ a b. a < b) ss → AllPairs (λ a b. a < b) cs → length rows ≡ length ss → All (λ row. length row ≡ length cs) rows → i < length ss → j < length cs
+      → find pair_cmp (pair (slice_index ss i) (slice_index cs j)) (table_entries pair ss cs rows) ≡ slice_index_or (slice_index_or rows i []) j None
+  find-table_entries [] cs rows i j up rise same wide within inside = absurd (omega arith)
+  find-table_entries (s ∷ ss) cs [] i j up rise same wide within inside = absurd (omega arith)
+  find-table_entries (s ∷ ss) cs (row ∷ rows) zero j up rise same wide within inside =
+      find-none_append (row_entries (pair s) cs row) (table_entries pair ss cs rows) (pair s (slice_index cs j))
+      (find_none (λ p _. Contains ss (row_of p)) (table_entries pair ss cs rows) (pair s (slice_index cs j))
+      (table_entries_hold (λ p _. Contains ss (row_of p)) pair ss cs rows (λ t c cost r k _ _ _. subst (Contains ss) (sym (row_is t c)) k))
+      (λ _ k. let below = All-contains (λ t. s < t) ss (row_of (pair s (slice_index cs j))) (All-pairs_head s ss up) k in omega (arith, below, row_is s (slice_index cs j))))
+      ∙ find-row_entries s cs row j rise (All-head (λ r. length r ≡ length cs) row rows wide) inside
+  find-table_entries (s ∷ ss) cs (row ∷ rows) (suc i) j up rise same wide within inside =
+      let below = All-pairs_head s ss up i 0 (omega arith) in
+      find-append_none (row_entries (pair s) cs row) (table_entries pair ss cs rows) (pair (slice_index ss i) (slice_index cs j))
+      (find_none (λ p _. row_of p ≡ s) (row_entries (pair s) cs row) (pair (slice_index ss i) (slice_index cs j))
+      (row_entries_hold (λ p _. row_of p ≡ s) (pair s) cs row (λ c _ _ _. row_is s c)) (λ _ e. omega (arith, below, e, row_is (slice_index ss i) (slice_index cs j))))
+      ∙ find-table_entries ss cs rows i j (All-pairs_tail s ss up) rise (omega arith) (All-tail (λ r. length r ≡ length cs) row rows wide) (omega arith) inside
+
+  -- what the map of a table has at two ids is the entry at their places
+  get-table : (ss cs : List ℕ) (rows : List (List (Option ℕ))) → IsTable ss cs rows → (i j : ℕ) → i < length ss → j < length cs
+      → get (table_lanes pair ss cs rows) (pair (slice_index ss i) (slice_index cs j)) ≡ slice_index_or (slice_index_or rows i []) j None
+  get-table ss cs rows table i j within inside =
+      get-from_entries pair_cmp-total (table_entries pair ss cs rows) (pair (slice_index ss i) (slice_index cs j))
+      ∙ find-table_entries ss cs rows i j (AllPairs-from_increasing ss table.sites_rise) (AllPairs-from_increasing cs table.customers_rise) table.row_each table.entry_each within inside
+
 pub get-lanes_of : (ss cs : List ℕ) (rows : List (List (Option ℕ))) → IsTable ss cs rows → (i j : ℕ) → i < length ss → j < length cs
     → get (lanes_of ss cs rows) (slice_index ss i, slice_index cs j) ≡ slice_index_or (slice_index_or rows i []) j None
-get-lanes_of ss cs rows table i j within inside =
-    get-from_entries pair_cmp-total (table_entries ss cs rows) (slice_index ss i, slice_index cs j)
-    ∙ find-table_entries ss cs rows i j (AllPairs-from_increasing ss table.sites_rise) (AllPairs-from_increasing cs table.customers_rise) table.row_each table.entry_each within inside
+get-lanes_of ss cs rows table i j within inside = get-table (λ s c. (s, c)) (λ p. p.0) (λ p. p.1) (λ _ _. refl) (λ _ _. refl) ss cs rows table i j within inside
 
 -- the lanes of the site at a place, in the order of the customers, are its row
 pub map-lanes_of : (ss cs : List ℕ) (rows : List (List (Option ℕ))) → IsTable ss cs rows → (i : ℕ) → i < length ss
@@ -153,17 +164,20 @@ map-lanes_of ss cs rows table i within =
     get_or-map at_id cs k 0 d inside ∙ get-lanes_of ss cs rows table i k within inside ∙ get_or_default row k None d (omega arith))
 
 -- a table has lanes only between its ids
+if_there : {A : Type 0} (o : Option ℕ) → IsSome o → IfSome o (λ _. A) → A
+if_there None there h = absurd cc
+if_there (Some cost) there h = h
+
 pub lanes_of_known : (ss cs : List ℕ) (rows : List (List (Option ℕ))) (s c : ℕ) → IsSome (get (lanes_of ss cs rows) (s, c)) → Contains ss s × Contains cs c
-lanes_of_known ss cs rows s c there = by (get (lanes_of ss cs rows) (s, c)) there (lanes_of_hold (λ p _. Contains ss p.0 × Contains cs p.1) ss cs rows (λ t d _ _ k l _ _. (k, l)) (s, c))
-  where
-    by : (o : Option ℕ) → IsSome o → IfSome o (λ _. Contains ss s × Contains cs c) → Contains ss s × Contains cs c
-    by None there h = cc
-    by (Some cost) there h = h
+lanes_of_known ss cs rows s c there = if_there (get (lanes_of ss cs rows) (s, c)) there (table_holds (λ p _. Contains ss p.0 × Contains cs p.1) (λ t d. (t, d)) ss cs rows (λ t d _ _ k l _ _. (k, l)) (s, c))
+
+lanes_by_customer_known : (ss cs : List ℕ) (rows : List (List (Option ℕ))) (s c : ℕ) → IsSome (get (lanes_by_customer ss cs rows) (s, c)) → Contains ss s × Contains cs c
+lanes_by_customer_known ss cs rows s c there = if_there (get (lanes_by_customer ss cs rows) (s, c)) there (table_holds (λ p _. Contains ss p.0 × Contains cs p.1) (λ d t. (t, d)) cs ss rows (λ d t _ _ l k _ _. (k, l)) (s, c))
 
 -- what holds of each cost in a table holds of each of its lanes, as a bound
 pub lanes_of_all : (P : ℕ → Type 0) (ss cs : List ℕ) (rows : List (List (Option ℕ))) → All (λ row. All (λ x. IfSome x P) row) rows → (s c : ℕ) → IfSome (get (lanes_of ss cs rows) (s, c)) P
 lanes_of_all P ss cs rows all s c =
-    lanes_of_hold (λ _ cost. P cost) ss cs rows (λ _ _ cost row _ _ k l. All-contains (λ x. IfSome x P) row (Some cost) (All-contains (λ r. All (λ x. IfSome x P) r) rows row all k) l) (s, c)
+    table_holds (λ _ cost. P cost) (λ t d. (t, d)) ss cs rows (λ _ _ cost row _ _ k l. All-contains (λ x. IfSome x P) row (Some cost) (All-contains (λ r. All (λ x. IfSome x P) r) rows row all k) l) (s, c)
 
 -- the ids between which there are lanes are among these
 pub record HasLanesAmong (ss cs : List ℕ) (m : Lanes) : Type 0 where
@@ -188,3 +202,24 @@ same_lanes ss cs m n of_m of_n same = same_map pair_cmp-total pair_cmp-exact m n
 pub lanes_from_places : (ss cs : List ℕ) (rows : List (List (Option ℕ))) → IsTable ss cs rows → (m : Lanes) → HasLanesAmong ss cs m → ((i j : ℕ) → i < length ss → j < length cs → get m (slice_index ss i, slice_index cs j) ≡ slice_index_or (slice_index_or rows i []) j None) → m ≡ lanes_of ss cs rows
 lanes_from_places ss cs rows table m of_m at =
     same_lanes ss cs m (lanes_of ss cs rows) of_m (record { known = lanes_of_known ss cs rows }) (λ i j within inside. at i j within inside ∙ sym (get-lanes_of ss cs rows table i j within inside))
+
+-- a table that is read down its columns, of which there are so many
+abbrev pub columns : ℕ → List (List (Option ℕ)) → List (List (Option ℕ))
+columns m rows = map (λ i. map (λ row. slice_index_or row i None) rows) (range_with_len 0 m)
+
+-- the columns of a table of rows for the customers are rows for the sites
+pub table_of_columns : (ss cs : List ℕ) (rows : List (List (Option ℕ))) → IsTable cs ss rows → IsTable ss cs (columns (length ss) rows)
+table_of_columns ss cs rows table = record {
+  sites_rise = table.customers_rise;
+  customers_rise = table.sites_rise;
+  row_each = length-map-range_with_len _ 0 (length ss);
+  entry_each = All-map (λ row. length row ≡ length cs) (λ i. map (λ row. slice_index_or row i None) rows) (range_with_len 0 (length ss)) (λ _ _ _. length-map rows _ ∙ table.row_each);
+}
+
+pub lanes_by_columns : (ss cs : List ℕ) (rows : List (List (Option ℕ))) → IsTable cs ss rows → lanes_by_customer ss cs rows ≡ lanes_of ss cs (columns (length ss) rows)
+lanes_by_columns ss cs rows table =
+    let column : ℕ → List (Option ℕ) = λ i. map (λ row. slice_index_or row i None) rows in
+    lanes_from_places ss cs (columns (length ss) rows) (table_of_columns ss cs rows table) (lanes_by_customer ss cs rows) (record { known = lanes_by_customer_known ss cs rows }) (λ i j within inside.
+    get-table (λ c s. (s, c)) (λ p. p.1) (λ p. p.0) (λ _ _. refl) (λ _ _. refl) cs ss rows table j i inside within
+    ∙ sym (get_or-map (λ row. slice_index_or row i None) rows j [] None (omega (arith, table.row_each)))
+    ∙ ap (λ col. slice_index_or col j None) (sym (get_or-map-range_with_len column 0 (length ss) i i [] within (omega arith))))

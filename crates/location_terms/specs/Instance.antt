@@ -58,21 +58,28 @@ fixed_of I s = unwrap_or (option_map (λ x. x.fixed) (find (λ x. x.id == s) I.s
 abbrev pub demand_of : Instance → ℕ → ℕ
 demand_of I c = unwrap_or (option_map (λ x. x.demand) (find (λ x. x.id == c) I.customers)) 0
 
--- the entries of one row of a table of lane costs: the lanes from a site to the customers, in order
-abbrev pub row_entries : ℕ → List ℕ → List (Option ℕ) → List ((ℕ × ℕ) × ℕ)
-row_entries s [] row = []
-row_entries s (c ∷ cs) [] = []
-row_entries s (c ∷ cs) (None ∷ row) = row_entries s cs row
-row_entries s (c ∷ cs) (Some cost ∷ row) = ((s, c), cost) ∷ row_entries s cs row
+-- the entries of one row of a table of lane costs, in the order of the ids; pair says which lane belongs to an id
+abbrev pub row_entries : (ℕ → ℕ × ℕ) → List ℕ → List (Option ℕ) → List ((ℕ × ℕ) × ℕ)
+row_entries pair [] row = []
+row_entries pair (c ∷ cs) [] = []
+row_entries pair (c ∷ cs) (None ∷ row) = row_entries pair cs row
+row_entries pair (c ∷ cs) (Some cost ∷ row) = (pair c, cost) ∷ row_entries pair cs row
 
-abbrev pub table_entries : List ℕ → List ℕ → List (List (Option ℕ)) → List ((ℕ × ℕ) × ℕ)
-table_entries [] cs rows = []
-table_entries (s ∷ ss) cs [] = []
-table_entries (s ∷ ss) cs (row ∷ rows) = row_entries s cs row ++ table_entries ss cs rows
+abbrev pub table_entries : (ℕ → ℕ → ℕ × ℕ) → List ℕ → List ℕ → List (List (Option ℕ)) → List ((ℕ × ℕ) × ℕ)
+table_entries pair [] cs rows = []
+table_entries pair (s ∷ ss) cs [] = []
+table_entries pair (s ∷ ss) cs (row ∷ rows) = row_entries (pair s) cs row ++ table_entries pair ss cs rows
+
+abbrev pub table_lanes : (ℕ → ℕ → ℕ × ℕ) → List ℕ → List ℕ → List (List (Option ℕ)) → Lanes
+table_lanes pair ss cs rows = map_of.from_entries (table_entries pair ss cs rows)
 
 -- the lanes of a table that has a row for each site and in it an entry for each customer
 abbrev pub lanes_of : List ℕ → List ℕ → List (List (Option ℕ)) → Lanes
-lanes_of ss cs rows = map_of.from_entries (table_entries ss cs rows)
+lanes_of ss cs rows = table_lanes (λ s c. (s, c)) ss cs rows
+
+-- the lanes of a table that has a row for each customer and in it an entry for each site
+abbrev pub lanes_by_customer : List ℕ → List ℕ → List (List (Option ℕ)) → Lanes
+lanes_by_customer ss cs rows = table_lanes (λ c s. (s, c)) cs ss rows
 
 -- the site and the customer at a place of the instance, counted from 0
 abbrev pub site_at : Instance → ℕ → Site
@@ -89,6 +96,14 @@ pub record AreIds (ids : List ℕ) (next : ℕ) : Type 0 where
   pub next_positive : 1 ≤ next
   pub next_small : next ≤ MAX_ID + 1
 
+-- numbers of sites and of customers within the limits
+pub record AreSizes (m n : ℕ) : Type 0 where
+  pub some_site : 1 ≤ m
+  pub few_sites : m ≤ MAX_SITES
+  pub some_customer : 1 ≤ n
+  pub few_customers : n ≤ MAX_CUSTOMERS
+  pub few_lanes : m * n ≤ MAX_LANES
+
 -- an instance within the limits of the suite
 pub record IsValid (I : Instance) : Type 0 where
   pub sites_named : AreIds (site_ids I) I.next_site
@@ -98,11 +113,7 @@ pub record IsValid (I : Instance) : Type 0 where
   pub fixed_small : All (λ s. s.fixed ≤ MAX_AMOUNT) I.sites
   pub caps_small : All (λ s. IfSome s.cap (λ cap. cap ≤ MAX_AMOUNT)) I.sites
   pub demands_small : All (λ c. c.demand ≤ MAX_AMOUNT) I.customers
-  pub some_site : 1 ≤ length I.sites
-  pub few_sites : length I.sites ≤ MAX_SITES
-  pub some_customer : 1 ≤ length I.customers
-  pub few_customers : length I.customers ≤ MAX_CUSTOMERS
-  pub few_lanes : length I.sites * length I.customers ≤ MAX_LANES
+  pub sizes : AreSizes (length I.sites) (length I.customers)
   pub count_order : I.lo ≤ I.hi
   pub count_small : I.hi ≤ MAX_SITES
 

@@ -64,7 +64,7 @@ feasible_nearest I valid plain set P made =
 -- a feasible plan opens a site, since some customer is served
 opens_some : (I : Instance) → IsValid I → (Q : Plan) → IsFeasible I Q → 1 ≤ length Q.sites
 opens_some I valid Q can =
-    let someone : 0 < length Q.serves = let one = valid.some_customer in omega (arith, length-map Q.serves (λ v. v.0), length-customer_ids I, ap length can.each_once) in
+    let someone : 0 < length Q.serves = let one = valid.sizes.some_customer in omega (arith, length-map Q.serves (λ v. v.0), length-customer_ids I, ap length can.each_once) in
     let at = can.by_open 0 (0, 0) someone in
     let within = at.1 in
     omega arith

@@ -6,7 +6,7 @@
 //! cities its customers.
 #![tactic(auto)]
 
-ghost use Rattle.std.specs.Prelude.{◌≡◌, ◌≤◌, ◌^◌, length, IfOk};
+ghost use Rattle.std.specs.Prelude.{◌≡◌, ◌≤◌, length, IfOk};
 ghost use Rattle.location_terms.specs.Instance.{IsValid};
 ghost use Rattle.location_terms.specs.Plain.{IsPlain};
 ghost use Rattle.fixed_cost.specs.Reading.{Means};
@@ -15,17 +15,17 @@ ghost use Rattle.ufllib_read.specs.Ufl.{ufl_meaning};
 mod laws;
 mod rows;
 
-use fixed_cost::{FormFault, WordReader};
+use fixed_cost::{FormFault, MAX_INSTANCE_BYTES, WordReader};
 use instance_store::Instance;
 pub use laws::meanings;
 use std::alloc::Global;
 
-/// The instance that a file of at most 2^28 bytes means, with sites 1, 2, 3 and so on and customers
+/// The instance that a file of at most `MAX_INSTANCE_BYTES` means, with sites 1, 2, 3 and so on and customers
 /// likewise. No site has a capacity, no customer a demand, and any number of sites may open. Costs are
 /// in millionths. The fault is that of the first word that has one.
 #[tactic(auto, unfolding(crate::specs::Ufl::ufl_meaning))]
 pub fn read(alloc: Global, bytes: &[u8]) -> Result<Instance, FormFault>
-    requires { length bytes.now ≤ 2 ^ 28 }
+    requires { length bytes.now ≤ MAX_INSTANCE_BYTES }
     ensures meaning { Means (λ inst. inst) result (ufl_meaning bytes.now) }
     ensures valid { IfOk result IsValid }
     ensures plain { IfOk result IsPlain }

@@ -34,7 +34,7 @@ loop-cust-preserved c =
       | then-not-is_dear w ↦
           let paid : w.paid_by-sum.result ≡ paid_at I path d c.args.site j = rw (c.q-q.ensures, c.u-price.ensures, bits) at w.paid_by-sum.ensures.exact in
           let paid_size : unsigned_abs w.paid_by-sum.result ≤ MAX_VALUE = abs_from w.paid_by-sum.result MAX_VALUE (omega (arith, ints, w.paid_by-sum.ensures.high)) (omega (arith, ints, w.paid_by-sum.ensures.low)) in
-          let few = c.requires.valid.few_customers in
+          let few = c.requires.valid.sizes.few_customers in
           let next = w.sum-is ∙ total_step (paid_at I path d c.args.site) j MAX_VALUE sum w.paid_by-sum.result c.loop-cust.invariant.exact sum_size paid paid_size (omega (arith, few, inside)) in
           let low = w.paid_by-sum.ensures.low in
           let high = w.paid_by-sum.ensures.high in

@@ -14,7 +14,7 @@ loop-site-preserved c =
     let f = share_of c.args.inst.now c.args.path.now c.args.duals.now in
     let i = c.loop-site.site in
     let sum = to_z w128 c.loop-site.sum-bits in
-    let few = c.requires.valid.few_sites in
+    let few = c.requires.valid.sizes.few_sites in
     record {
       exact = total_step f i MAX_SLACK sum c.share-sum.result c.loop-site.invariant.exact c.loop-site.invariant.small c.share-sum.ensures.exact c.share-sum.ensures.small (omega arith);
       small = size_step i MAX_SLACK sum c.share-sum.result c.loop-site.invariant.small c.share-sum.ensures.small (omega arith);

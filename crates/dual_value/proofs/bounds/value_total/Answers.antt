@@ -19,7 +19,7 @@ loop-value-preserved c =
     let within : j < length d.v = omega (arith, ap (λ (xs : List ℤ). length xs) c.values-value-items.ensures) in
     let size : unsigned_abs (slice_index_or values j (pos 0)) ≤ MAX_VALUE = rw at (c.requires.fit.in_limits.values j (pos 0) within) in
     let sum = to_z w128 c.loop-value.sum-bits in
-    let few = c.requires.valid.few_customers in
+    let few = c.requires.valid.sizes.few_customers in
     let as_many = c.requires.fit.of_instance.customers in
     record {
       exact = total_step (v_at d) j MAX_VALUE sum (slice_index_or values j (pos 0)) c.loop-value.invariant.exact c.loop-value.invariant.small at size (omega arith);

@@ -6,11 +6,11 @@ use Rattle.set_walk.proofs.walk.least_set.Goals as goal
 use Rattle.set_walk.proofs.walk.least_set.Goals.{then-cost-best, else-cost-best, In-loop-bits}
 
 pub set_cost-requires-clause-some : goal.set_cost-requires-clause-some
-set_cost-requires-clause-some c = opened_some c.args.inst.now 1 (omega arith) (sets_some (length c.args.inst.now.sites) c.sites.ensures.valid.some_site)
+set_cost-requires-clause-some c = opened_some c.args.inst.now 1 (omega arith) (sets_some (length c.args.inst.now.sites) c.sites.ensures.valid.sizes.some_site)
 
 pub loop-bits-init : goal.loop-bits-init
 loop-bits-init c =
-    let some = opened_some c.args.inst.now 1 (omega arith) (sets_some (length c.args.inst.now.sites) c.sites.ensures.valid.some_site) in
+    let some = opened_some c.args.inst.now 1 (omega arith) (sets_some (length c.args.inst.now.sites) c.sites.ensures.valid.sizes.some_site) in
     IsLeastSoFar-first c.args.inst.now c.set_cost.result some c.set_cost.ensures
 
 -- each set of the walk holds a site

@@ -1,0 +1,2 @@
+/// The most bytes of an instance file, 2^28, so that its lines and the words of a line can be counted.
+pub const MAX_INSTANCE_BYTES: u64 = 268_435_456;

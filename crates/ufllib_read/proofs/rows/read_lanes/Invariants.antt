@@ -1,9 +1,0 @@
-use Rattle.std.proofs.Common.{◌≡◌, ◌-◌}
-use Rattle.fixed_cost.specs.Reading.{many_at}
-use Rattle.fixed_cost.proofs.ReadSteps.{with_front}
-use Rattle.ufllib_read.specs.Ufl.{lane_at}
-use Rattle.ufllib_read.proofs.rows.read_lanes.Given as goal
-
--- the lanes so far and those that are left are all
-abbrev pub invariant-loop : goal.invariant-loop
-invariant-loop l = with_front l.lanes (many_at (λ _. lane_at) l.counter (l.custs - l.counter) l.reader) ≡ many_at (λ _. lane_at) 0 l.custs l.fn.reader
