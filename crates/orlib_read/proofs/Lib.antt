@@ -1,0 +1,3 @@
+pub mod ReadRows
+pub mod Whole
+pub mod Meant
