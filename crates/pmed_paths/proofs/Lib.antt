@@ -1,0 +1,11 @@
+pub mod Costs
+pub mod Edges
+pub mod Loops
+pub mod Cheapest
+pub mod Offers
+pub mod Searches
+pub mod ArcRows
+pub mod Trees
+pub mod ReadEdges
+pub mod Medians
+pub mod Meant
