@@ -73,6 +73,15 @@ module _ (I : Instance) (path : Path) where
             subst (λ (e : Duals). bound_of I path e <ℤ bound_of I path p.duals) same (gains some (subst (Gains I path) (sym same) gain));
       }
 
+  -- after the ascent of the start, and trials up to the first that gains
+  pub adjusted_once : (start a : Duals) (p : Present) (found : Option ℕ) → IsAscended I path start a → Keeps I path start a → HaveSamePrices a p.duals → HasAscended I path p → AreTrials I path a p.duals 0 found → IsAdjusted I path 1 start p.duals
+  adjusted_once start a p None asc keeps prices risen trials =
+      let same : bound_of I path p.duals ≡ bound_of I path a = ap (bound_of I path) trials.0 in
+      adjusted_from 1 start a p asc keeps prices risen (omega (arith, ints, same)) (λ _ gain. absurd (no_gain I path a (λ j c. trials.1 j (omega arith) c) gain))
+  adjusted_once start a p (Some next) asc keeps prices risen trials =
+      let greater = trials.2.greater in
+      adjusted_from 1 start a p asc keeps prices risen (omega (arith, ints, greater)) (λ _ _. greater)
+
 -- a search for the first step that gains, from duals that are their own ascent, in the prepared box
 module _ (I : Instance) (path : Path) (b : Prepared) (same_box : b ≡ (let box : Prepared = record { instance = I; path = path } in box)) (d s : Duals) (same_start : s ≡ d) (own : IsAscended I path d d) (old : Present) (asc : IsAscended b.instance b.path s old.duals) where
   is_start : old.duals ≡ d

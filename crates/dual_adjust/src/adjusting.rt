@@ -52,6 +52,18 @@ pub fn adjust_in(boxed: &PreparedBox<'_>, order: &LaneOrder, trials: &mut Trials
     }
 }
 
+/// The dual adjustment in the box up to the first trial that gains: less than a round, and enough for a
+/// greater bound where one is to be had. It takes no memory.
+pub fn adjust_once(boxed: &PreparedBox<'_>, order: &LaneOrder, trials: &mut Trials)
+    requires order { IsOrderOf order.now boxed.now.instance }
+    requires start { IsStart boxed.now.instance trials.old }
+    ensures adjusted { IsAdjusted boxed.now.instance boxed.now.path 1 trials.old.duals trials.new.duals }
+    ensures risen { HasAscended boxed.now.instance boxed.now.path trials.new }
+{
+    trials.ascend(boxed, order);
+    let _place = next_gain(boxed, order, trials, 0);
+}
+
 /// What the first step of an adjustment that gains comes to, from duals that an ascent has raised, and
 /// `None` exactly where no step gains. It fails only where memory runs out.
 pub fn gain(

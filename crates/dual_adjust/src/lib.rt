@@ -9,7 +9,7 @@ mod lowering;
 mod slackness;
 mod trials;
 
-pub use adjusting::{adjust, adjust_in, gain};
+pub use adjusting::{adjust, adjust_in, adjust_once, gain};
 pub use laws::candidates;
 pub use slackness::{tight_sites, violations};
 pub use trials::Trials;
