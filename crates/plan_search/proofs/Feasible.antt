@@ -109,7 +109,7 @@ module _ (I : Instance) (path : Path) (hint : List ℕ) (valid : IsValid I) wher
     by_allowed j b = of_server I path sites taken are (λ t. is_allowed I path (site_at I t.1) (customer_at I t.0) ≡ true) are.allowed j b
 
     whole : is_torn I path ≡ false
-    whole = (lane_parts I path (server_of taken 0) 0 (by_allowed 0 (omega (arith, valid.some_customer)))).0
+    whole = (lane_parts I path (server_of taken 0) 0 (by_allowed 0 (omega (arith, valid.sizes.some_customer)))).0
 
     -- a site that is called for is named
     called_named : (i : ℕ) → i < length I.sites → is_called_for path (site_at I i) ≡ true → Contains names (site_at I i).id

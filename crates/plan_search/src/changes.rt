@@ -40,6 +40,29 @@ pub(crate) fn best_change(sites: &[Prospect], count: &Count) -> Option<Change> {
     }
 }
 
+/// The opening or the closing that saves the most, where one saves. While too few sites are open it is the
+/// best opening, and while too many are the best closing, whatever that costs.
+pub(crate) fn best_single(sites: &[Prospect], count: &Count) -> Option<Change> {
+    let mut best = None;
+    for site in 0..sites.len() {
+        best = better(best, single_at(&sites[site], count, site));
+    }
+    match best {
+        Some(change) if count.is_within() && change.saves <= 0 => None,
+        _ => best,
+    }
+}
+
+fn single_at(prospect: &Prospect, count: &Count, site: usize) -> Option<Change> {
+    if prospect.may_join() {
+        return opening(prospect, count, site);
+    }
+    if prospect.may_leave() {
+        return closing(prospect, count, site);
+    }
+    None
+}
+
 /// How many sites are open.
 pub(crate) fn open_count(sites: &[Prospect]) -> usize {
     let mut count = 0usize;

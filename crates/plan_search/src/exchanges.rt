@@ -113,14 +113,13 @@ fn best_over(
     requires customer { cust < length boxed.now.instance.customers }
     ensures { length sites.new ≡ length sites.old }
 {
-    let demand = boxed.instance().demand(cust);
     let mut best = before;
     for lane in order.lanes(cust) {
         if lane.cost >= near.second {
             return best;
         }
         let site = lane.site as usize;
-        if sites[site].may_join() && boxed.admits(site, cust, demand) {
+        if sites[site].may_join() {
             let more = near.second.saturating_sub(lane.cost.max(near.cost));
             let extra = sites[site].extra.with(look, more);
             sites[site].extra = extra;

@@ -4,7 +4,7 @@ ghost use Rattle.std.specs.Prelude.{◌≡◌, length};
 ghost use Rattle.lane_order.specs.Order.{IsOrderOf};
 
 use crate::caps::has_no_caps;
-use crate::changes::{Change, Count, best_change, open_count};
+use crate::changes::{Change, Count, best_change, best_single, open_count};
 use crate::chosen::is_free;
 use crate::exchanges::{look_anew, mark_all};
 use crate::prospects::{Nearest, Prospect};
@@ -97,8 +97,13 @@ fn improve(boxed: &PreparedBox, order: &LaneOrder, sites: &mut [Prospect], custs
 {
     let mut all_known = true;
     for step in 0..MAX_STEPS {
-        look_anew(boxed, order, sites, custs, step);
-        match best_change(sites, &count_of(boxed, sites)) {
+        let count = count_of(boxed, sites);
+        let mut change = best_single(sites, &count);
+        if change.is_none() {
+            look_anew(boxed, order, sites, custs, step);
+            change = best_change(sites, &count);
+        }
+        match change {
             Some(change) => {
                 make(boxed, order, sites, custs, &change);
                 all_known = false;

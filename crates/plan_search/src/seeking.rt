@@ -39,8 +39,8 @@ pub fn best_seen(
     best_in(alloc, &boxed, order, hint)
 }
 
-/// The same in a box that is prepared.
-pub fn best_in(
+// The same in a box that is prepared.
+fn best_in(
     alloc: Global,
     boxed: &PreparedBox,
     order: &LaneOrder,
@@ -60,7 +60,7 @@ pub fn best_in(
 }
 
 /// The plan that is packed for the hint in a box that is prepared, with no search behind it: what
-/// `best_in` begins with.
+/// `best_seen` begins with.
 pub fn packed_in(
     alloc: Global,
     boxed: &PreparedBox,
@@ -78,34 +78,12 @@ pub fn packed_in(
     Ok(plan)
 }
 
-/// A plan in the box that costs at most as much as this one, by a search among the sets of open sites
-/// where no site has a capacity.
-///
-/// It fails only where memory runs out.
-pub fn improved_in(
+// A plan in the box that costs at most as much as this one, by a search among the sets of open sites
+// where no site has a capacity. It fails only where memory runs out.
+fn improved_in(
     alloc: Global,
     boxed: &PreparedBox,
     order: &LaneOrder,
-    plan: Plan,
-) -> Result<Plan, NoMemory>
-    requires order { IsOrderOf order.now boxed.now.instance }
-    requires path { IsPathOf boxed.now.instance boxed.now.path }
-    requires feasible { IsFeasible boxed.now.instance plan }
-    requires in_box { IsInBox plan boxed.now.path }
-    ensures feasible { IfOk result (IsFeasible boxed.now.instance) }
-    ensures in_box { IfOk result (λ better. IsInBox better boxed.now.path) }
-    ensures cost { IfOk result (λ better. cost_of boxed.now.instance better ≤ cost_of boxed.now.instance plan) }
-{
-    let mut work = LocalSearch::of(alloc, boxed.instance())?;
-    improved_with(alloc, boxed, order, &mut work, plan)
-}
-
-/// The same in arrays that are made before.
-pub fn improved_with(
-    alloc: Global,
-    boxed: &PreparedBox,
-    order: &LaneOrder,
-    work: &mut LocalSearch,
     plan: Plan,
 ) -> Result<Plan, NoMemory>
     requires order { IsOrderOf order.now boxed.now.instance }
@@ -120,6 +98,7 @@ pub fn improved_with(
         return Ok(plan);
     }
     let flags = plan_flags(alloc, boxed.instance(), &plan)?;
+    let mut work = LocalSearch::of(alloc, boxed.instance())?;
     work.search(boxed, order, &flags)?;
     if !costs_more(boxed.instance(), &plan, work.cost()) {
         return Ok(plan);
@@ -133,9 +112,9 @@ pub fn improved_with(
 
 /// A plan in the box that is sought from a set of open sites: the free sites that are flagged, by place,
 /// and those that are opened in the box. Where no site has a capacity, sites are opened, closed and
-/// exchanged from there while that saves. The plan is what is packed for the set. Where no plan is packed,
-/// none is given. It is for sets of any size: too few or too many open sites are brought within the
-/// instance's count.
+/// exchanged from there while that saves, and no plan is given where the set found costs `limit`
+/// millionths or more. The plan is what is packed for the set. It is for sets of any size: too few or too
+/// many open sites are brought within the instance's count.
 ///
 /// It fails only where memory runs out.
 pub fn improved_set(
@@ -144,14 +123,17 @@ pub fn improved_set(
     order: &LaneOrder,
     work: &mut LocalSearch,
     flags: &[bool],
+    limit: u64,
 ) -> Result<Option<Plan>, NoMemory>
     requires order { IsOrderOf order.now boxed.now.instance }
     requires path { IsPathOf boxed.now.instance boxed.now.path }
     ensures feasible { IfOk result (λ plan. IfSome plan (IsFeasible boxed.now.instance)) }
     ensures in_box { IfOk result (λ plan. IfSome plan (λ P. IsInBox P boxed.now.path)) }
-    ensures cheapest { HasNoCaps boxed.now.instance → SettlesSites boxed.now.instance boxed.now.path → IfOk result (IsBestIn boxed.now.instance boxed.now.path) }
 {
     work.search(boxed, order, flags)?;
+    if has_no_caps(boxed.instance()) && work.cost() >= limit {
+        return Ok(None);
+    }
     let hint = work.open_sites(alloc, boxed.instance())?;
     packed_in(alloc, boxed, order, &hint)
 }

@@ -24,9 +24,9 @@ pub(crate) fn serve_all(
     ensures custs { length custs.new ≡ length custs.old }
 {
     for cust in 0..custs.len() {
-        let near = nearest(boxed, order, sites, cust);
-        weigh(boxed, order, sites, cust, &near, true);
-        custs[cust] = near;
+        custs[cust] = Nearest::none(0);
+        let near = nearest(order, sites, cust);
+        replace(order, sites, custs, cust, &near);
     }
 }
 
@@ -50,7 +50,7 @@ pub(crate) fn open(
     for cust in 0..boxed.instance().custs() {
         if let Some(cost) = cost_below(boxed, site, cust, custs[cust].second) {
             let near = custs[cust].with(site as u32, cost);
-            replace(boxed, order, sites, custs, cust, &near);
+            replace(order, sites, custs, cust, &near);
         }
     }
 }
@@ -73,8 +73,8 @@ pub(crate) fn close(
     sites[site].is_open = false;
     for cust in 0..custs.len() {
         if custs[cust].has(site) {
-            let near = nearest(boxed, order, sites, cust);
-            replace(boxed, order, sites, custs, cust, &near);
+            let near = nearest(order, sites, cust);
+            replace(order, sites, custs, cust, &near);
         }
     }
 }
@@ -86,43 +86,39 @@ fn cost_below(boxed: &PreparedBox, site: usize, cust: usize, limit: u64) -> Opti
 {
     let inst = boxed.instance();
     match inst.lane(site, cust) {
-        Some(cost) if cost < limit && boxed.admits(site, cust, inst.demand(cust)) => Some(cost),
+        Some(cost) if cost < limit => Some(cost),
         _ => None,
     }
 }
 
 // Puts these sites in the place of the customer's nearest ones.
 fn replace(
-    boxed: &PreparedBox,
     order: &LaneOrder,
     sites: &mut [Prospect],
     custs: &mut [Nearest],
     cust: usize,
     near: &Nearest,
 )
-    requires order { IsOrderOf order.now boxed.now.instance }
-    requires sites { length sites.old ≡ length boxed.now.instance.sites }
-    requires custs { length custs.old ≡ length boxed.now.instance.customers }
-    requires customer { cust < length boxed.now.instance.customers }
+    requires sites { length sites.old ≡ length order.now.sites }
+    requires custs { length custs.old ≡ length order.now.lanes }
+    requires customer { cust < length order.now.lanes }
     ensures sites { length sites.new ≡ length sites.old }
     ensures custs { length custs.new ≡ length custs.old }
 {
-    weigh(boxed, order, sites, cust, &custs[cust], false);
-    weigh(boxed, order, sites, cust, near, true);
+    let before = custs[cust];
+    weigh(order, sites, cust, &before, near);
     custs[cust] = *near;
 }
 
 // The customer's nearest two open sites.
-fn nearest(boxed: &PreparedBox, order: &LaneOrder, sites: &[Prospect], cust: usize) -> Nearest
-    requires order { IsOrderOf order.now boxed.now.instance }
-    requires sites { length sites.now ≡ length boxed.now.instance.sites }
-    requires customer { cust < length boxed.now.instance.customers }
+fn nearest(order: &LaneOrder, sites: &[Prospect], cust: usize) -> Nearest
+    requires customer { cust < length order.now.lanes }
+    requires sites { length sites.now ≡ length order.now.sites }
 {
-    let demand = boxed.instance().demand(cust);
     let mut near = Nearest::none(UNSERVED);
     for lane in order.lanes(cust) {
         let site = lane.site as usize;
-        if sites[site].is_open && boxed.admits(site, cust, demand) {
+        if sites[site].is_open {
             near = near.with(lane.site, lane.cost);
             if near.second_site.is_some() {
                 return near;
@@ -132,31 +128,28 @@ fn nearest(boxed: &PreparedBox, order: &LaneOrder, sites: &[Prospect], cust: usi
     near
 }
 
-// Adds what the customer counts for at the sites, or takes it off: at its nearest open site how much more
-// the second one costs, and at each site that costs less than the nearest how much less that is.
-fn weigh(
-    boxed: &PreparedBox,
-    order: &LaneOrder,
-    sites: &mut [Prospect],
-    cust: usize,
-    near: &Nearest,
-    adds: bool,
-)
-    requires order { IsOrderOf order.now boxed.now.instance }
-    requires sites { length sites.old ≡ length boxed.now.instance.sites }
-    requires customer { cust < length boxed.now.instance.customers }
+// Lets the customer count for what these nearest sites say, in the place of those before: at its nearest open
+// site how much more the second one costs, and at each site that costs less than the nearest how much less
+// that is.
+fn weigh(order: &LaneOrder, sites: &mut [Prospect], cust: usize, before: &Nearest, near: &Nearest)
+    requires customer { cust < length order.now.lanes }
+    requires sites { length sites.old ≡ length order.now.sites }
     ensures { length sites.new ≡ length sites.old }
 {
-    weigh_nearest(sites, near, adds);
-    let demand = boxed.instance().demand(cust);
+    weigh_nearest(sites, before, false);
+    weigh_nearest(sites, near, true);
+    if before.cost == near.cost {
+        return;
+    }
+    let most = before.cost.max(near.cost);
     for lane in order.lanes(cust) {
-        if lane.cost >= near.cost {
+        if lane.cost >= most {
             return;
         }
         let site = lane.site as usize;
-        if boxed.admits(site, cust, demand) {
-            sites[site].lanes = changed(sites[site].lanes, near.cost - lane.cost, adds);
-        }
+        let less = near.cost.saturating_sub(lane.cost);
+        let lanes = sites[site].lanes.wrapping_add(less);
+        sites[site].lanes = lanes.wrapping_sub(before.cost.saturating_sub(lane.cost));
     }
 }
 

@@ -163,13 +163,14 @@ fn is_none_seen(alloc: Global, inst: &Instance, steps: &[Decision], hint: &[u32]
     }
 }
 
-// What is sought in the box of these steps from these flags, where the steps name sites and customers of
-// the instance.
+// What is sought below the limit in the box of these steps from these flags, where the steps name sites and
+// customers of the instance.
 fn sought(
     alloc: Global,
     inst: &Instance,
     steps: &[Decision],
     flags: &[bool],
+    limit: u64,
 ) -> Result<Option<Option<Plan>>, NoMemory> {
     let order = LaneOrder::of(alloc, inst)?;
     let path = path(alloc, steps)?;
@@ -178,7 +179,7 @@ fn sought(
     }
     let boxed = PreparedBox::of(alloc, inst, &path)?;
     let mut work = LocalSearch::of(alloc, inst)?;
-    let plan = improved_set(alloc, &boxed, &order, &mut work, flags)?;
+    let plan = improved_set(alloc, &boxed, &order, &mut work, flags, limit)?;
     Ok(Some(plan))
 }
 
@@ -191,8 +192,15 @@ fn is_sought(
     sites: &[u32],
     from: &[u32],
 ) -> bool {
-    match sought(alloc, inst, steps, flags) {
+    match sought(alloc, inst, steps, flags, u64::MAX) {
         Ok(Some(Some(plan))) => is_plan(&plan, sites, from),
+        _ => false,
+    }
+}
+
+fn is_none_below(alloc: Global, inst: &Instance, limit: u64) -> bool {
+    match sought(alloc, inst, &[], &[], limit) {
+        Ok(Some(None)) => true,
         _ => false,
     }
 }
@@ -285,6 +293,7 @@ fn exchanges_where_no_single_change_saves(rt: HostRuntime) -> Result<(), Fail> {
     assert!(rt; is_sought(alloc, &inst, &[], &[false, false, true], &[2], &[2, 2, 2]));
     assert!(rt; is_sought(alloc, &inst, &[], &[true, true, true], &[2], &[2, 2, 2]));
     assert!(rt; is_sought(alloc, &inst, &[], &[], &[2], &[2, 2, 2]));
+    assert!(rt; is_none_below(alloc, &inst, 20_000_000));
     let site = SiteId::new(2);
     assert!(rt;
         is_sought(

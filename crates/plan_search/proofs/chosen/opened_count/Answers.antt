@@ -8,7 +8,7 @@ use Rattle.plan_search.proofs.chosen.opened_count.Goals.{then-is_opened, else-is
 pub overflow_add-count : goal.overflow_add-count
 overflow_add-count c =
     let opened : ℕ → Bool = λ i. is_opened c.args.boxed.now.path (site_at c.args.boxed.now.instance i) in
-    omega (arith, c.loop-site.invariant, passing_short opened c.loop-site.site, c.loop-site-test.true, c.sites-site-end.ensures.count, c.sites-site-end.ensures.valid.few_sites)
+    omega (arith, c.loop-site.invariant, passing_short opened c.loop-site.site, c.loop-site-test.true, c.sites-site-end.ensures.count, c.sites-site-end.ensures.valid.sizes.few_sites)
 
 pub loop-site-preserved : goal.loop-site-preserved
 loop-site-preserved c =
