@@ -6,6 +6,8 @@ ghost use Rattle.std.specs.Prelude.{◌≡◌, ◌<◌, length};
 pub(crate) struct Customer {
     /// The dual that is evaluated.
     pub(crate) value: f64,
+    /// How many lanes it pays: the cheapest ones.
+    pub(crate) paid: usize,
     /// The dual of the best evaluation.
     pub(crate) best: f64,
     /// By how much the bound rises with the dual: 1 less the number of sites that it pays.
@@ -26,6 +28,7 @@ pub(crate) struct Customer {
 pub(crate) fn customer_between(least: f64, most: f64) -> Customer {
     Customer {
         value: least,
+        paid: 0,
         best: least,
         slope: 1.0,
         smooth: 1.0,

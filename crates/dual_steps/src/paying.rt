@@ -9,21 +9,22 @@ use std::num::nearest_u64_to_f64;
 /// Fills in the slacks of the sites at the duals that are evaluated. The answer is the sum of the duals.
 pub(crate) fn fill_slacks(
     order: &LaneOrder,
-    customers: &[Customer],
+    customers: &mut [Customer],
     sites: &[Site],
     slacks: &mut [f64],
 ) -> f64
-    requires customers { length customers.now ≡ length order.now.lanes }
+    requires customers { length customers.old ≡ length order.now.lanes }
     requires sites { length sites.now ≡ length slacks.old }
     requires slacks { length slacks.old ≡ length order.now.sites }
-    ensures { length slacks.new ≡ length slacks.old }
+    ensures customers { length customers.new ≡ length customers.old }
+    ensures slacks { length slacks.new ≡ length slacks.old }
 {
     fill_costs(sites, slacks);
     let mut sum = 0.0;
     for j in 0..customers.len() {
         let value = customers[j].value;
         sum += value;
-        pay(order, j, value, slacks);
+        customers[j].paid = pay(order, j, value, slacks);
     }
     sum
 }
@@ -37,41 +38,48 @@ fn fill_costs(sites: &[Site], slacks: &mut [f64])
     }
 }
 
-// Takes off the slacks what the customer at place `j` pays with this dual.
-fn pay(order: &LaneOrder, j: usize, value: f64, slacks: &mut [f64])
+// Takes off the slacks what the customer at place `j` pays with this dual. The answer is how many lanes it
+// pays.
+fn pay(order: &LaneOrder, j: usize, value: f64, slacks: &mut [f64]) -> usize
     requires customer { j < length order.now.lanes }
     requires slacks { length slacks.old ≡ length order.now.sites }
     ensures { length slacks.new ≡ length slacks.old }
 {
+    let mut paid = 0usize;
     for lane in order.lanes(j) {
         let cost = nearest_u64_to_f64(lane.cost);
         if value <= cost {
-            return;
+            return paid;
         }
         slacks[lane.site as usize] -= value - cost;
+        paid = paid.wrapping_add(1);
     }
+    paid
 }
 
-/// Fills in the slopes, where these sites are open.
+/// Fills in the slopes at the duals whose slacks were filled in last, where these sites are open.
 pub(crate) fn fill_slopes(order: &LaneOrder, open: &[bool], customers: &mut [Customer])
     requires customers { length customers.old ≡ length order.now.lanes }
     requires open { length open.now ≡ length order.now.sites }
     ensures { length customers.new ≡ length customers.old }
 {
     for j in 0..customers.len() {
-        customers[j].slope = slope(order, j, customers[j].value, open);
+        customers[j].slope = slope(order, j, customers[j].paid, open);
     }
 }
 
-fn slope(order: &LaneOrder, j: usize, value: f64, open: &[bool]) -> f64
+// The slope of a customer that pays so many lanes.
+fn slope(order: &LaneOrder, j: usize, paid: usize, open: &[bool]) -> f64
     requires customer { j < length order.now.lanes }
     requires open { length open.now ≡ length order.now.sites }
 {
     let mut slope = 1.0;
+    let mut left = paid;
     for lane in order.lanes(j) {
-        if value <= nearest_u64_to_f64(lane.cost) {
+        if left == 0 {
             return slope;
         }
+        left -= 1;
         if open[lane.site as usize] {
             slope -= 1.0;
         }

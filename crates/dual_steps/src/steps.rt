@@ -202,7 +202,7 @@ impl Steps {
         requires { Suits self.old order.now }
         ensures { self.new ≡ self.old }
     {
-        let sum = fill_slacks(order, &self.customers, &self.sites, &mut self.slacks);
+        let sum = fill_slacks(order, &mut self.customers, &self.sites, &mut self.slacks);
         let chosen = choose(
             &self.sites,
             &self.slacks,
