@@ -1,18 +1,16 @@
 -- Without capacities a search ends with a budget of 2 ^ (sites + 1) nodes for each leaf that doesn't close at its start.
-use Rattle.std.proofs.Common.{◌≡◌, ℕ, zero, suc, ◌+◌, ◌*◌, ◌^◌, ◌≤◌, Bool, true, false, List, [], ◌∷◌, ◌++◌, length, length-append, Option, None, Some, ℤ, pos, ◌-ℤ◌, ◌*ℤ◌, ◌≤ℤ◌, ◌<ℤ◌, refl, sym, ap, subst, ◌∙◌, inl, inr, arith}
+use Rattle.std.proofs.Common.{◌≡◌, ℕ, zero, suc, ◌+◌, ◌*◌, ◌^◌, ◌≤◌, Bool, true, false, List, [], ◌∷◌, ◌++◌, length, length-append, Option, refl, sym, ap, subst, ◌∙◌, inl, inr, arith}
 use Rattle.std.specs.Prelude.{IsTrue, ◌↔◌, IfSome, not, filter, slice_get, All, Contains}
 use Rattle.std.proofs.lemmas.Bool.{both_ways}
-use Rattle.std.proofs.lemmas.Int.{ints}
-use Rattle.std.proofs.lemmas.Nat.{mul-le}
 use Rattle.std.proofs.lemmas.List.Elements.{All-nil, All-cons, All-contains, filter-append}
 use Rattle.location_terms.specs.declared.decision.Decision.TheVariants.{Opened, Closed, Yes, No}
 use Rattle.location_terms.specs.Instance.{Instance}
-use Rattle.location_terms.specs.Plan.{Plan, cost_of}
+use Rattle.location_terms.specs.Plan.{Plan}
 use Rattle.location_terms.specs.Box.{Path}
 use Rattle.location_terms.specs.Bound.{Duals, bound_of}
-use Rattle.location_terms.specs.Fit.{BoundCloses, Closes}
+use Rattle.location_terms.specs.Fit.{Closes}
 use Rattle.location_terms.specs.Tree.{Node, Leaf, OnSite, OnLane, Tree, leaves_below, leaves_of, size_of, nodes_of}
-use Rattle.plan_search.specs.InBox.{HasNoCaps, IsNoWorse}
+use Rattle.plan_search.specs.InBox.{HasNoCaps}
 use Rattle.tree_search.specs.Grown.{IsGrownBelow, IsGrownFrom}
 use Rattle.tree_search.specs.Answer.{cost_in, AreHeld, IsAnswerTo, IsBracketCause, IsDecided}
 use Rattle.tree_search.specs.declared.answer.Answer.{Answer}

@@ -1,6 +1,6 @@
 -- A tree that grows, from step to step.
-use Rattle.std.proofs.Common.{◌≡◌, ℕ, ◌+◌, ◌-◌, ◌<◌, ◌≤◌, zero, suc, sym, ap, subst, ◌∙◌, inl, inr, arith, [], ◌∷◌, ◌++◌, length, Bool, Option, Some, None, ◌≤ℤ◌}
-use Rattle.std.specs.Prelude.{◌⊎◌, All, Contains, IfSome, IsTrue, IsFalse, leb, true, false}
+use Rattle.std.proofs.Common.{◌≡◌, ℕ, ◌+◌, ◌-◌, ◌<◌, ◌≤◌, sym, ap, subst, ◌∙◌, inl, inr, arith, [], ◌∷◌, ◌++◌, length, Bool, Option, Some, None, ◌≤ℤ◌}
+use Rattle.std.specs.Prelude.{Contains, IfSome, IsTrue, IsFalse, leb, true, false}
 use Rattle.std.proofs.lemmas.Int.{ints}
 use Rattle.std.proofs.lemmas.Bool.{leb-true, leb-false}
 use Rattle.std.proofs.lemmas.List.{length-map, get_or_default}
@@ -12,21 +12,19 @@ use Rattle.location_terms.specs.Plan.{Plan}
 use Rattle.location_terms.specs.Box.{Path}
 use Rattle.location_terms.specs.Bound.{Duals, bound_of}
 use Rattle.location_terms.specs.Fit.{DualsFit}
-use Rattle.location_terms.specs.Tree.{Node, Leaf, Tree, HasLists, nodes_of, size_of}
+use Rattle.location_terms.specs.Tree.{Leaf, Tree, HasLists, nodes_of}
 use Rattle.dual_value.proofs.Further.{bound_rises, bound_rises_closed}
 use Rattle.plan_search.proofs.Among.{Contains-map}
 use Rattle.plan_search.specs.InBox.{IsPathOf, NamesKnown, IsNoWorse}
-use Rattle.branch_tree.specs.declared.split.Split.{Split}
-use Rattle.branch_tree.specs.declared.split.Split.TheVariants.{Site, Lane}
-use Rattle.branch_tree.specs.Leaf.{replaced}
-use Rattle.branch_tree.specs.Growing.{Growing, split_node, leaf_at_work, worked, growing_from, split_in_two}
-use Rattle.branch_tree.specs.Built.{IsBuiltOf, IsBuiltIn, IsDoneIn}
-use Rattle.branch_tree.proofs.Built.{built_leaves, built_from, built_with_duals, built_split, built_replaced, built_but_weaker, done_from, done_split, done_whole}
+use Rattle.branch_tree.specs.declared.split.Split.TheVariants.{Site}
+use Rattle.branch_tree.specs.Growing.{Growing, split_node, leaf_at_work, worked, split_in_two}
+use Rattle.branch_tree.specs.Built.{IsBuiltOf}
+use Rattle.branch_tree.proofs.Built.{built_leaves, built_with_duals, built_split, built_replaced, built_but_weaker, done_split, done_whole}
 use Rattle.tree_search.specs.Made.{IsMadeLeaf, IsOpenBox, IsFreeSite}
 use Rattle.tree_search.specs.Making.{LowersNone}
 use Rattle.tree_search.specs.Answer.{cost_in}
-use Rattle.tree_search.specs.Working.{ClosesWith, IsSoughtAt, IsWorked, IsDoneLeaf, IsSiteSplit, IsReached, AnySplit, IsGrowing, IsGrownPart, steps_left}
-use Rattle.tree_search.proofs.Closer.{no_worse_same, no_worse_again, closes_still, sought_still}
+use Rattle.tree_search.specs.Working.{IsWorked, IsDoneLeaf, IsSiteSplit, IsReached, AnySplit, IsGrowing, IsGrownPart, steps_left}
+use Rattle.tree_search.proofs.Closer.{no_worse_again, closes_still, sought_still}
 use Rattle.tree_search.proofs.LeafPlaces.{all_at, replaced_size}
 
 -- as the incumbent improves and nodes are made

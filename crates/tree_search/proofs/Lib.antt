@@ -10,10 +10,11 @@ mod Renewed
 mod Reseated
 mod Settled
 mod Shown
-mod Strong
+mod Going
 mod TightPlans
 mod Verdicts
 mod ZeroBound
+mod ZeroTrees
 pub mod Comparing
 pub mod Decided
 pub mod Leaves

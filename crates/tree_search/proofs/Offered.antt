@@ -1,12 +1,12 @@
 -- What offers to the incumbent come to.
-use Rattle.std.proofs.Common.{◌≡◌, ℕ, zero, suc, ◌*◌, ◌≤◌, sym, ap, subst, ◌∙◌, inl, inr, arith, List, Option, Some, None, Result, Ok, Err, pos, ◌-ℤ◌, ◌*ℤ◌, ◌≤ℤ◌, ◌<ℤ◌}
+use Rattle.std.proofs.Common.{◌≡◌, ℕ, zero, suc, ◌*◌, ◌≤◌, ap, subst, ◌∙◌, inl, inr, arith, List, Option, Some, None, Result, Ok, Err, pos, ◌-ℤ◌, ◌*ℤ◌, ◌≤ℤ◌, ◌<ℤ◌}
 use Rattle.std.specs.Prelude.{OnOk, IfOk, IsSomeAnd}
 use Rattle.std.proofs.lemmas.Int.{ints}
 use Rattle.std.proofs.lemmas.Bool.{cases_lt}
 use Rattle.std.proofs.lemmas.Nat.{mul-le}
 use Rattle.location_terms.specs.Instance.{Instance, IsValid}
-use Rattle.location_terms.specs.Plan.{Plan, IsFeasible, cost_of}
-use Rattle.location_terms.specs.Box.{Path, IsInBox}
+use Rattle.location_terms.specs.Plan.{Plan, cost_of}
+use Rattle.location_terms.specs.Box.{Path}
 use Rattle.location_terms.specs.Bound.{Duals, AreDualsOf, bound_of}
 use Rattle.location_terms.specs.Fit.{BoundCloses}
 use Rattle.location_terms.proofs.Duality.{bound_within_cost}
@@ -45,13 +45,6 @@ module _ (I : Instance) where
     -- what was offered at the tight sites
     pub offered_sought : (plan : Option Plan) (hint : List ℕ) → hint ≡ tight_sites I path d → IsNoWorse I plan (packed I path hint) → IsSoughtAt I plan path d
     offered_sought plan hint is offered P at = some_within I plan (packed I path hint) P offered (ap (packed I path) is ∙ at)
-
-    -- what closes against what the incumbent's plan costs
-    pub closes_with : (best : Best) (target : Option ℕ) → best.instance ≡ I → target ≡ cost_in best.instance best.plan → BoundCloses (bound_of I path d) d.q target → ClosesWith I best.plan path d
-    closes_with best target same is closes = subst (BoundCloses (bound_of I path d) d.q) (is ∙ ap (λ J. cost_in J best.plan) same) closes
-
-    pub with_closes : (best : Best) (target : Option ℕ) → best.instance ≡ I → target ≡ cost_in best.instance best.plan → ClosesWith I best.plan path d → BoundCloses (bound_of I path d) d.q target
-    with_closes best target same is closes = subst (BoundCloses (bound_of I path d) d.q) (sym (is ∙ ap (λ J. cost_in J best.plan) same)) closes
 
     -- where the box closes, no plan of it costs less
     closed_within : (q cost : ℕ) (plan : Option Plan) → 1 ≤ q → BoundCloses (bound_of I path d) q (cost_in I plan) → bound_of I path d ≤ℤ pos (q * cost) → IsSomeAnd plan (λ Q. cost_of I Q ≤ cost)

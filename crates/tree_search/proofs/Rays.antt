@@ -19,7 +19,7 @@ use Rattle.dual_ascent.specs.Ascent.{with_v}
 use Rattle.dual_adjust.proofs.Violating.{is_server}
 use Rattle.tree_search.specs.Made.{IsMadeLeaf}
 
-nothing_paid : (allowed : Bool) (v level : ℤ) → (allowed ≡ true → v ≤ℤ level) → (if allowed then int_max (pos 0) (v -ℤ level) else pos 0) ≡ pos 0
+pub nothing_paid : (allowed : Bool) (v level : ℤ) → (allowed ≡ true → v ≤ℤ level) → (if allowed then int_max (pos 0) (v -ℤ level) else pos 0) ≡ pos 0
 nothing_paid true v level low = let h = low refl in omega (arith, ints, clamps, h)
 nothing_paid false v level low = refl
 

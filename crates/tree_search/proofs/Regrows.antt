@@ -1,5 +1,5 @@
 -- What each leaf of a tree comes to in a search, and the whole tree.
-use Rattle.std.proofs.Common.{◌≡◌, ℕ, ◌+◌, ◌-◌, ◌*◌, ◌^◌, ◌<◌, ◌≤◌, zero, suc, refl, sym, ap, subst, ◌∙◌, inl, inr, arith, List, [], ◌∷◌, ◌++◌, length, get_or, Bool, true, false, Option, Some, None, pos, negsuc, ◌-ℤ◌, ◌*ℤ◌, ◌≤ℤ◌, ◌<ℤ◌, ℤ}
+use Rattle.std.proofs.Common.{◌≡◌, ℕ, ◌+◌, ◌-◌, ◌^◌, ◌<◌, ◌≤◌, zero, suc, refl, sym, ap, subst, ◌∙◌, inl, inr, arith, List, [], ◌∷◌, ◌++◌, length, get_or, Bool, true, false, Option, Some, None, pos, negsuc, ◌-ℤ◌, ◌*ℤ◌, ◌≤ℤ◌, ◌<ℤ◌, ℤ}
 use Rattle.std.specs.Prelude.{◌⊎◌, ◌↔◌, All, IfSome, IsTrue, IsSome, IsSomeAnd, slice_get}
 use Rattle.std.proofs.lemmas.Bool.{both_ways}
 use Rattle.std.proofs.lemmas.Int.{ints}
@@ -7,7 +7,7 @@ use Rattle.std.proofs.lemmas.Nat.{mul-le}
 use Rattle.std.proofs.lemmas.List.Elements.{All-append, All-cons, All-nil, All-weaker}
 use Rattle.location_terms.specs.declared.decision.Decision.TheVariants.{Opened, Closed, Yes, No}
 use Rattle.location_terms.specs.Instance.{Instance, IsValid, site_ids, customer_ids}
-use Rattle.location_terms.specs.Plan.{Plan, cost_of}
+use Rattle.location_terms.specs.Plan.{Plan}
 use Rattle.location_terms.specs.Box.{Path}
 use Rattle.location_terms.specs.Bound.{Duals, bound_of}
 use Rattle.location_terms.specs.Fit.{DualsFit, BoundCloses, Closes}
@@ -17,12 +17,12 @@ use Rattle.plan_search.specs.InBox.{IsPathOf, HasNoCaps, IsNoWorse}
 use Rattle.branch_tree.specs.Leaf.{leaf_total, replaced}
 use Rattle.branch_tree.specs.Built.{IsBuiltOf}
 use Rattle.branch_tree.proofs.Built.{built_leaves}
-use Rattle.tree_search.specs.Made.{IsMadeLeaf, IsMadeAtScale, IsOpenBox, IsMade, plain_scale}
+use Rattle.tree_search.specs.Made.{IsMadeAtScale, IsOpenBox, IsMade, plain_scale}
 use Rattle.tree_search.specs.Grown.{IsGrownBelow, IsGrownFrom, PlansWereSought}
 use Rattle.tree_search.specs.Answer.{HasFreeCount, AreHeld, IsWithin, IsAnswerTo, cost_in, plan_in}
 use Rattle.tree_search.specs.declared.answer.Answer.{Answer}
 use Rattle.tree_search.specs.declared.limits.TheConstants.{MAX_DUALS}
-use Rattle.tree_search.specs.Working.{ClosesWith, IsSoughtAt, IsDoneLeaf, IsSiteSplit, IsGrownPart}
+use Rattle.tree_search.specs.Working.{IsSoughtAt, IsDoneLeaf, IsSiteSplit, IsGrownPart}
 use Rattle.tree_search.specs.Regrown.{IsKnownLeaf, HasEnded, HaveEnded, Answers, IsRenewed, IsRenewedBut, IsGrownAt, IsRegrownFrom}
 use Rattle.tree_search.proofs.Closer.{closes_no_worse, closes_still, sought_still}
 use Rattle.tree_search.proofs.Comparing.{times_le}
@@ -310,7 +310,7 @@ answers_to I old new handed plan budget made a regrown later answers =
 
 -- the numbers of a search are small
 few_duals : (I : Instance) (n : ℕ) → IsValid I → IsWithin I n → n ≤ MAX_DUALS
-few_duals I n valid within = let product = mul-le n 1 n (length I.sites + length I.customers) (omega arith) (omega (arith, valid.some_site)) in omega (arith, product, within)
+few_duals I n valid within = let product = mul-le n 1 n (length I.sites + length I.customers) (omega arith) (omega (arith, valid.sizes.some_site)) in omega (arith, product, within)
 
 pub few_nodes : (I : Instance) (nodes budget : ℕ) → IsValid I → IsWithin I nodes ⊎ (nodes ≡ 1) → IsWithin I budget → nodes + budget + 3 < 2 ^ 32
 few_nodes I nodes budget valid (inl within) spent = omega (arith, few_duals I nodes valid within, few_duals I budget valid spent)

@@ -1,15 +1,14 @@
 -- A tree whose leaves are renewed one after another, from the last to the first.
-use Rattle.std.proofs.Common.{◌≡◌, ℕ, ◌+◌, ◌-◌, ◌<◌, ◌≤◌, zero, suc, refl, sym, ap, subst, ◌∙◌, inl, inr, arith, cond, List, [], ◌∷◌, ◌++◌, length, Option, Some, None}
-use Rattle.std.specs.Prelude.{All, slice_get, nat_lt}
+use Rattle.std.proofs.Common.{◌≡◌, ℕ, ◌-◌, ◌<◌, ◌≤◌, zero, suc, refl, sym, ap, subst, ◌∙◌, inl, inr, arith, cond, [], ◌∷◌, ◌++◌, Some}
+use Rattle.std.specs.Prelude.{slice_get, nat_lt}
 use Rattle.std.proofs.lemmas.Bool.{cases_lt, lt-ltb, le-ltb}
-use Rattle.std.proofs.lemmas.List.Elements.{All-append}
 use Rattle.location_terms.specs.declared.decision.Decision.TheVariants.{Opened, Closed, Yes, No}
 use Rattle.location_terms.specs.Box.{Path}
 use Rattle.location_terms.specs.Bound.{Duals}
 use Rattle.location_terms.specs.Tree.{Node, Leaf, OnSite, OnLane, leaves_below}
 use Rattle.branch_tree.specs.Leaf.{leaf_total, replaced}
 use Rattle.tree_search.specs.Regrown.{IsRenewedBut}
-use Rattle.tree_search.proofs.LeafPlaces.{LeafAt, as_many, some_leaf, both_children, get_first, get_second}
+use Rattle.tree_search.proofs.LeafPlaces.{LeafAt, some_leaf, both_children, get_first, get_second}
 
 leaf_pair : (l m : Path × Duals) → Some l ≡ Some m → l ≡ m
 leaf_pair l m h = cc

@@ -1,8 +1,8 @@
 -- Without capacities a box in which no site is free is closed by the plain ascent and the plan that is packed in it.
-use Rattle.std.proofs.Common.{◌≡◌, ℕ, ◌*◌, ◌<◌, ◌≤◌, refl, sym, ap, subst, ◌∙◌, inl, inr, arith, Bool, true, false, cond, List, length, map, Option, None, Some, unwrap_or, ℤ, pos, ◌-ℤ◌, ◌≤ℤ◌}
+use Rattle.std.proofs.Common.{◌≡◌, ℕ, ◌*◌, ◌<◌, ◌≤◌, refl, sym, ap, subst, ◌∙◌, inl, inr, arith, Bool, true, false, cond, List, length, map, Option, None, Some, unwrap_or, ℤ, pos, ◌≤ℤ◌}
 use Rattle.std.specs.Prelude.{IsFalse, Contains, ◌&&◌, ◌||◌, not, sum_by, if◌then◌else◌}
-use Rattle.std.specs.Int.{int_max, int_min}
-use Rattle.std.proofs.lemmas.Int.{ints, clamps}
+use Rattle.std.specs.Int.{int_min}
+use Rattle.std.proofs.lemmas.Int.{ints}
 use Rattle.std.proofs.lemmas.Bool.{both_ways}
 use Rattle.std.proofs.lemmas.List.{length-replicate}
 use Rattle.location_terms.specs.Instance.{Instance, IsValid, site_at, customer_at, lane, fixed_of}
@@ -28,6 +28,7 @@ use Rattle.plan_search.proofs.PlanOf.{server_of, of_server, sum_served}
 use Rattle.plan_search.proofs.Feasible.{lane_parts, packs, are_taken}
 use Rattle.tree_search.specs.Made.{AreServed, IsPlainAscent}
 use Rattle.tree_search.specs.Answer.{HasFreeCount}
+use Rattle.tree_search.proofs.Rays.{nothing_paid}
 use Rattle.tree_search.proofs.ZeroBound.{scale_is_one}
 use Rattle.tree_search.proofs.OpenPlans.{served_packs}
 use Rattle.tree_search.proofs.PlaceSums.{sum_at_most, kept_at_most}
@@ -46,10 +47,6 @@ opened_if false closed e f = cc
 unpriced : (u : ℕ) (cap : Option ℕ) → cap ≡ None → cap_price u cap ≡ 0
 unpriced u None e = refl
 unpriced u (Some cap) e = cc
-
-nothing_paid : (allowed : Bool) (v level : ℤ) → (allowed ≡ true → v ≤ℤ level) → (if allowed then int_max (pos 0) (v -ℤ level) else pos 0) ≡ pos 0
-nothing_paid true v level within = let low = within refl in omega (arith, ints, clamps, low)
-nothing_paid false v level within = refl
 
 share_is : (opened free among : Bool) (slack : ℤ) (f : ℕ) → slack ≡ pos f → free ≡ false → ((opened || among) ≡ true → opened ≡ true) → cond (opened || among) (pos (1 * f)) (pos 0) ≤ℤ (if opened then slack else (if free then int_min (pos 0) slack else pos 0))
 share_is true free among slack f e none h = omega (arith, ints)

@@ -1,19 +1,19 @@
 -- What a tree shows whose leaves have ended, and an open leaf among them.
-use Rattle.std.proofs.Common.{◌≡◌, ℕ, zero, suc, ◌+◌, ◌<◌, ◌≤◌, refl, sym, ap, subst, ◌∙◌, inl, inr, arith, List, [], ◌∷◌, Option, Some, None, pos, ◌-ℤ◌, ◌*ℤ◌, ◌≤ℤ◌, ◌<ℤ◌, ℤ}
-use Rattle.std.specs.Prelude.{◌⊎◌, All, Contains, IfSome, IsSome, IsNone, MatchOption, option_map}
+use Rattle.std.proofs.Common.{◌≡◌, ℕ, suc, ◌+◌, ◌<◌, ◌≤◌, refl, sym, subst, inl, inr, arith, List, [], ◌∷◌, Option, Some, None, pos, ◌-ℤ◌, ◌*ℤ◌, ◌<ℤ◌, ℤ}
+use Rattle.std.specs.Prelude.{◌⊎◌, All, Contains, IfSome, IsSome, IsNone, MatchOption}
 use Rattle.std.proofs.lemmas.Int.{by_lt_z, ints}
 use Rattle.std.proofs.lemmas.Bool.{cases_eq}
 use Rattle.std.proofs.lemmas.List.Elements.{All-cons, All-nil, All-weaker}
 use Rattle.location_terms.specs.Instance.{Instance}
-use Rattle.location_terms.specs.Plan.{Plan, IsFeasible, cost_of}
+use Rattle.location_terms.specs.Plan.{Plan, IsFeasible}
 use Rattle.location_terms.specs.Box.{Path}
 use Rattle.location_terms.specs.Bound.{Duals, bound_of}
 use Rattle.location_terms.specs.Fit.{DualsFit, BoundCloses, Closes}
 use Rattle.location_terms.specs.Tree.{Tree, IsTree, StandsOn, AllClose, leaves_of, low_of}
 use Rattle.location_terms.specs.Certificate.{Costs}
 use Rattle.branch_tree.proofs.LowEnd.{closes_against_low}
-use Rattle.tree_search.specs.declared.answer.Answer.TheVariants.{Optimal, Infeasible, Bracket}
-use Rattle.tree_search.specs.Answer.{cost_in, HasOpenLeaf}
+use Rattle.tree_search.specs.declared.answer.Answer.TheVariants.{Bracket}
+use Rattle.tree_search.specs.Answer.{cost_in}
 use Rattle.tree_search.specs.Regrown.{HasEnded, HaveEnded, Answers}
 
 closes_scaled : (bound : ℤ) (q : ℕ) (target : Option ℕ) → 1 ≤ q → BoundCloses bound q target ⊎ (BoundCloses bound q target → ⊥)

@@ -1,6 +1,6 @@
 -- What is decided on a leaf that is worked, and what is shown of it.
-use Rattle.std.proofs.Common.{◌≡◌, ℕ, ◌<◌, ◌≤◌, Bool, sym, subst, ◌∙◌, inl, inr, arith, length, Option, Some, None, IfSome}
-use Rattle.std.specs.Prelude.{◌⊎◌, IfNone, IsTrue, IsFalse, IsSomeAnd, ℤ}
+use Rattle.std.proofs.Common.{◌≡◌, ℕ, ◌≤◌, Bool, subst, inl, inr, Option, Some, None, IfSome}
+use Rattle.std.specs.Prelude.{IfNone, IsTrue, IsSomeAnd, ℤ}
 use Rattle.location_terms.specs.Instance.{Instance, IsValid}
 use Rattle.location_terms.specs.Plan.{Plan, cost_of}
 use Rattle.location_terms.specs.Box.{Path}
@@ -11,11 +11,11 @@ use Rattle.dual_value.specs.Scales.{IsAtLeast}
 use Rattle.dual_adjust.specs.Slackness.{tight_sites}
 use Rattle.plan_search.specs.InBox.{IsPathOf, HasNoCaps, IsNoWorse}
 use Rattle.plan_search.specs.Packed.{packed}
-use Rattle.tree_search.specs.Made.{AreServed, IsPlainAscent, IsMadeLeaf, IsOpenBox, IsFreeSite}
+use Rattle.tree_search.specs.Made.{AreServed, IsMadeLeaf, IsOpenBox, IsFreeSite}
 use Rattle.tree_search.specs.Making.{Making, LowersNone, IsMaking, StaysMaking}
 use Rattle.tree_search.specs.Answer.{HasFreeCount, cost_in}
 use Rattle.tree_search.specs.Working.{ClosesWith, IsSoughtAt, HasNoFreeSite, IsPressed, IsVerdict, IsWorked}
-use Rattle.tree_search.proofs.Closer.{closes_at_least, closes_no_worse, closes_still, sought_still, some_within}
+use Rattle.tree_search.proofs.Closer.{closes_at_least, closes_no_worse, closes_still, sought_still}
 use Rattle.tree_search.proofs.Comparing.{at_least_trans}
 use Rattle.tree_search.proofs.Settled.{settled}
 
@@ -34,7 +34,7 @@ module _ (I : Instance) (path : Path) where
 
   -- A leaf that was pressed and then settled.
   module _ (valid : IsValid I) (no_caps : HasNoCaps I) (free_count : HasFreeCount I) (known : IsPathOf I path) (served : AreServed I path) where
-    module _ (m m' m'' : Making) (old_path : Path) (old : Duals) (making : IsMaking I old_path old path m) (first : StaysMaking I path m m') (second : StaysMaking I path m' m'') (plan plan' : Option Plan) (later : IsNoWorse I plan' plan) (pressed : IsPressed I plan path m.plain.duals m'.best.duals) where
+    module _ (m m' m'' : Making) (old_path : Path) (old : Duals) (making : IsMaking I old_path old path m) (first : StaysMaking I path m m') (second : StaysMaking I path m' m'') (plan plan' : Option Plan) (later : IsNoWorse I plan' plan) (pressed : IsPressed I plan path m.plain m'.best.duals) where
       making' : IsMaking I old_path old path m'
       making' = first.making old_path old making
 
@@ -42,33 +42,33 @@ module _ (I : Instance) (path : Path) where
       making'' = second.making old_path old making'
 
       -- what the plain ascent closes the best duals close
-      plain_closes : (target : Option ℕ) → BoundCloses (bound_of I path m.plain.duals) m.plain.duals.q target → BoundCloses (bound_of I path m''.best.duals) m''.best.duals.q target
+      plain_closes : (target : Option ℕ) → BoundCloses (bound_of I path m.plain) m.plain.q target → BoundCloses (bound_of I path m''.best.duals) m''.best.duals.q target
       plain_closes target closes =
           let bound : Duals → ℤ = bound_of I path in
-          let so_far : IsAtLeast (bound m'.best.duals) m'.best.duals.q (bound m.plain.duals) m.plain.duals.q =
-          at_least_trans (bound m'.best.duals) (bound m.best.duals) (bound m.plain.duals) m'.best.duals.q m.best.duals.q m.plain.duals.q making.best_risen.tame.scaled first.risen making.above in
-          closes_at_least (bound m''.best.duals) (bound m.plain.duals) m''.best.duals.q m.plain.duals.q target making''.best_risen.tame.scaled making.plain_risen.tame.scaled
-          (at_least_trans (bound m''.best.duals) (bound m'.best.duals) (bound m.plain.duals) m''.best.duals.q m'.best.duals.q m.plain.duals.q making'.best_risen.tame.scaled second.risen so_far)
+          let so_far : IsAtLeast (bound m'.best.duals) m'.best.duals.q (bound m.plain) m.plain.q =
+          at_least_trans (bound m'.best.duals) (bound m.best.duals) (bound m.plain) m'.best.duals.q m.best.duals.q m.plain.q making.best_risen.tame.scaled first.risen making.above in
+          closes_at_least (bound m''.best.duals) (bound m.plain) m''.best.duals.q m.plain.q target making''.best_risen.tame.scaled making.plain_tame.scaled
+          (at_least_trans (bound m''.best.duals) (bound m'.best.duals) (bound m.plain) m''.best.duals.q m'.best.duals.q m.plain.q making'.best_risen.tame.scaled second.risen so_far)
           closes
 
       -- where the plain ascent closes against what is packed, the best duals close
-      packed_closes : (P : Plan) → packed I path (tight_sites I path m.plain.duals) ≡ Some P → BoundCloses (bound_of I path m.plain.duals) m.plain.duals.q (Some (cost_of I P)) → ClosesWith I plan' path m''.best.duals
+      packed_closes : (P : Plan) → packed I path (tight_sites I path m.plain) ≡ Some P → BoundCloses (bound_of I path m.plain) m.plain.q (Some (cost_of I P)) → ClosesWith I plan' path m''.best.duals
       packed_closes P is closes =
           elim pressed [
             | inl closed ↦
                 closes_still I path plan' plan later m''.best.duals
                 (closes_at_least (bound_of I path m''.best.duals) (bound_of I path m'.best.duals) m''.best.duals.q m'.best.duals.q (cost_in I plan) making''.best_risen.tame.scaled making'.best_risen.tame.scaled second.risen closed)
             | inr sought ↦
-                closes_no_worse I (bound_of I path m''.best.duals) m''.best.duals.q plan' (Some P) (no_worse_some plan' P (sought_still I path plan' plan later m.plain.duals sought P is))
+                closes_no_worse I (bound_of I path m''.best.duals) m''.best.duals.q plan' (Some P) (no_worse_some plan' P (sought_still I path plan' plan later m.plain sought P is))
                 (plain_closes (Some (cost_of I P)) closes)
           ]
 
       open_box : (ClosesWith I plan' path m''.best.duals → ⊥) → (handed : Option Plan) → IsNoWorse I plan' handed → IsOpenBox I (cost_in I handed) path
       open_box unclosed handed no_worse = record {
         served = served;
-        ascent = m.plain.duals;
+        ascent = m.plain;
         is_plain = making.is_plain;
-        target_open = open_target (bound_of I path m.plain.duals) m.plain.duals.q (cost_in I handed)
+        target_open = open_target (bound_of I path m.plain) m.plain.q (cost_in I handed)
             (λ closes. unclosed (closes_no_worse I (bound_of I path m''.best.duals) m''.best.duals.q plan' handed no_worse (plain_closes (cost_in I handed) closes)));
         packed_open = λ P is closes. unclosed (packed_closes P is closes);
       }
@@ -87,7 +87,7 @@ module _ (I : Instance) (path : Path) where
           | inr left ↦ elim left [
             | inl must ↦ inr must
             | inr none_free ↦
-                let end = settled I path valid no_caps free_count known served none_free m.plain.duals making.is_plain (tight_sites I path m.plain.duals) in
+                let end = settled I path valid no_caps free_count known served none_free m.plain making.is_plain (tight_sites I path m.plain) in
                 inl (packed_closes end.0 end.1 end.2)
           ]
         ];

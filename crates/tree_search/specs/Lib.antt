@@ -4,5 +4,6 @@ pub mod Making
 pub mod Stored
 pub mod Answer
 pub mod Best
+pub mod Searching
 pub mod Working
 pub mod Regrown

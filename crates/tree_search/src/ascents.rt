@@ -6,8 +6,6 @@ ghost use Rattle.dual_value.specs.Zeros.{zeros};
 ghost use Rattle.dual_ascent.specs.Kept.{Keeps};
 ghost use Rattle.dual_ascent.specs.Work.{IsWorkFor};
 ghost use Rattle.dual_adjust.specs.Present.{HasAscended};
-ghost use Rattle.plan_search.specs.InBox.{HasNoCaps};
-ghost use Rattle.tree_search.specs.Made.{IsPlainAscent};
 
 use dual_adjust::Trials;
 use dual_value::{Duals, PreparedBox};
@@ -24,32 +22,6 @@ pub fn zeros_at(alloc: Global, inst: &Instance, q: u32) -> Result<Trials, NoMemo
     Trials::of(alloc, inst, Duals::zeros(alloc, inst, q)?)
 }
 
-/// The ascent from zeros in the box.
-/// It fails only where memory runs out.
-pub fn plain_ascent(
-    alloc: Global,
-    boxed: &PreparedBox<'_>,
-    order: &LaneOrder,
-) -> Result<Trials, NoMemory>
-    requires order { IsOrderOf order.now boxed.now.instance }
-    requires no_caps { HasNoCaps boxed.now.instance }
-    ensures risen { IfOk result (λ t. HasAscended boxed.now.instance boxed.now.path t) }
-    ensures plain { IfOk result (λ t. IsPlainAscent boxed.now.instance boxed.now.path t.duals) }
-{
-    let mut plain = zeros_at(alloc, boxed.instance(), 1)?;
-    plain.ascend(boxed, order);
-    Ok(plain)
-}
-
-/// A copy of these duals, with what it takes to let them rise.
-/// It fails only where memory runs out.
-pub fn copy_of(alloc: Global, inst: &Instance, duals: &Duals) -> Result<Trials, NoMemory>
-    ensures duals { IfOk result (λ t. t.duals ≡ duals.now) }
-    ensures work { IfOk result (λ t. IsWorkFor inst.now t.work) }
-{
-    Trials::of(alloc, inst, duals.copied()?)
-}
-
 /// The ascent of a copy of these duals.
 /// It fails only where memory runs out.
 pub fn ascent_of(
@@ -63,7 +35,7 @@ pub fn ascent_of(
     ensures risen { IfOk result (λ t. HasAscended boxed.now.instance boxed.now.path t) }
     ensures keeps { IfOk result (λ t. Keeps boxed.now.instance boxed.now.path duals.now t.duals) }
 {
-    let mut risen = copy_of(alloc, boxed.instance(), duals)?;
+    let mut risen = Trials::of(alloc, boxed.instance(), duals.copied()?)?;
     risen.ascend(boxed, order);
     Ok(risen)
 }

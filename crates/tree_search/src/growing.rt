@@ -3,15 +3,14 @@ ghost use Rattle.std.specs.Prelude.{◌≡◌, ℕ, ◌+◌, ◌*◌, ◌^◌, �
 ghost use Rattle.location_terms.specs.Fit.{DualsFit};
 ghost use Rattle.location_terms.specs.Tree.{StandsOn, leaves_of, nodes_of};
 ghost use Rattle.lane_order.specs.Order.{IsOrderOf};
-ghost use Rattle.dual_steps.specs.Sizes.{sizes_of};
 ghost use Rattle.plan_search.specs.InBox.{HasNoCaps};
 ghost use Rattle.tree_search.specs.Answer.{HasFreeCount, AreHeld, IsSearchStart, IsAnswerTo, cost_in};
 ghost use Rattle.tree_search.specs.Best.{Improves};
 ghost use Rattle.tree_search.specs.Regrown.{IsKnownLeaf, HaveEnded, IsGrownAt, IsRegrownFrom, Answers};
 
-use crate::helpers::Helpers;
-use crate::incumbent::{Incumbent, plan_cost};
+use crate::incumbent::plan_cost;
 use crate::leaf_growth::grow_leaf;
+use crate::search::Search;
 use crate::{Answer, MAX_DUALS};
 use branch_tree::Tree;
 use instance_store::{Instance, NoMemory};
@@ -55,110 +54,68 @@ pub fn grow(
     // An instance is valid, so that the numbers of nodes are small.
     let _sites = inst.sites();
     let mut tree = tree;
-    let mut incumbent = Incumbent::of(inst, plan);
-    let mut helpers = Helpers::of(alloc, inst, order)?;
-    let made = grow_open(
-        alloc,
-        order,
-        &mut tree,
-        held,
-        &mut incumbent,
-        &mut helpers,
-        budget,
-    )?;
-    answer(inst, tree, incumbent, made)
+    let mut search = Search::of(alloc, inst, order, plan)?;
+    let made = grow_open(&mut search, &mut tree, held, budget)?;
+    answer(search, tree, made)
 }
 
 // Grows a tree in the place of each leaf that isn't held, from the last to the first, so that the places
 // of those to come stay the same: how many nodes the splits made.
 fn grow_open(
-    alloc: Global,
-    order: &LaneOrder,
+    search: &mut Search<'_>,
     tree: &mut Tree,
     held: &[bool],
-    incumbent: &mut Incumbent<'_>,
-    helpers: &mut Helpers,
     budget: u32,
 ) -> Result<u32, NoMemory>
-    requires order { IsOrderOf order.now incumbent.old.instance }
-    requires no_caps { HasNoCaps incumbent.old.instance }
-    requires free_count { HasFreeCount incumbent.old.instance }
-    requires stands { StandsOn tree.old incumbent.old.instance }
-    requires fit { All (λ l. DualsFit incumbent.old.instance l.1) (leaves_of tree.old) }
-    requires held { AreHeld incumbent.old.instance tree.old (cost_in incumbent.old.instance incumbent.old.plan) held.now }
+    requires stands { StandsOn tree.old search.old.best.instance }
+    requires fit { All (λ l. DualsFit search.old.best.instance l.1) (leaves_of tree.old) }
+    requires held { AreHeld search.old.best.instance tree.old (cost_in search.old.best.instance search.old.best.plan) held.now }
     requires few { nodes_of tree.old + budget + 3 < 2 ^ 32 }
-    requires sizes { helpers.old ≡ sizes_of incumbent.old.instance }
-    ensures plan { OnOk result (Improves incumbent.old incumbent.new) }
-    ensures sizes { OnOk result (helpers.new ≡ helpers.old) }
-    ensures grown { IfOk result (IsRegrownFrom incumbent.old.instance tree.old incumbent.old.plan incumbent.new.plan budget 0 tree.new) }
+    ensures plan { OnOk result (Improves search.old.best search.new.best) }
+    ensures grown { IfOk result (IsRegrownFrom search.old.best.instance tree.old search.old.best.plan search.new.best.plan budget 0 tree.new) }
 {
     // The instance is valid, and the tree's splits are on its ids.
-    let _sites = incumbent.instance().sites();
+    let _sites = search.instance().sites();
     let _nodes = tree.nodes();
     let mut made = 0;
     let mut left = held.len();
     while left > 0 {
         left -= 1;
         if !held[left] {
-            made += grow_at(alloc, order, tree, left, incumbent, helpers, budget - made)?;
+            made += grow_at(search, tree, left, budget - made)?;
         }
     }
     Ok(made)
 }
 
 // Grows a tree in the place of leaf `k`: how many nodes the splits made.
-fn grow_at(
-    alloc: Global,
-    order: &LaneOrder,
-    tree: &mut Tree,
-    k: usize,
-    incumbent: &mut Incumbent<'_>,
-    helpers: &mut Helpers,
-    budget: u32,
-) -> Result<u32, NoMemory>
-    requires order { IsOrderOf order.now incumbent.old.instance }
-    requires no_caps { HasNoCaps incumbent.old.instance }
-    requires free_count { HasFreeCount incumbent.old.instance }
-    requires stands { StandsOn tree.old incumbent.old.instance }
+fn grow_at(search: &mut Search<'_>, tree: &mut Tree, k: usize, budget: u32) -> Result<u32, NoMemory>
+    requires stands { StandsOn tree.old search.old.best.instance }
     requires within { k < length (leaves_of tree.old) }
-    requires known { IfSome (slice_get (leaves_of tree.old) k) (λ l. IsKnownLeaf incumbent.old.instance l.0 l.1) }
+    requires known { IfSome (slice_get (leaves_of tree.old) k) (λ l. IsKnownLeaf search.old.best.instance l.0 l.1) }
     requires few { nodes_of tree.old + budget + 3 < 2 ^ 32 }
-    requires sizes { helpers.old ≡ sizes_of incumbent.old.instance }
-    ensures plan { OnOk result (Improves incumbent.old incumbent.new) }
-    ensures sizes { OnOk result (helpers.new ≡ helpers.old) }
-    ensures grown { IfOk result (IsGrownAt incumbent.old.instance tree.old k incumbent.old.plan incumbent.new.plan budget tree.new) }
+    ensures plan { OnOk result (Improves search.old.best search.new.best) }
+    ensures grown { IfOk result (IsGrownAt search.old.best.instance tree.old k search.old.best.plan search.new.best.plan budget tree.new) }
 {
     let path = tree.leaf_path(k)?;
-    let part = grow_leaf(
-        alloc,
-        order,
-        path,
-        tree.leaf_duals(k),
-        incumbent,
-        helpers,
-        budget + 1,
-    )?;
+    let part = grow_leaf(search, path, tree.leaf_duals(k), budget + 1)?;
     let made = part.nodes() - 1;
     tree.replace_leaf(k, part)?;
     Ok(made)
 }
 
-// What the tree and the incumbent's plan show.
-fn answer(
-    inst: &Instance,
-    tree: Tree,
-    incumbent: Incumbent<'_>,
-    made: u32,
-) -> Result<Answer, NoMemory>
-    requires instance { incumbent.instance ≡ inst.now }
-    requires stands { StandsOn tree inst.now }
-    requires ended { (budget : ℕ) × HaveEnded inst.now incumbent.plan budget made tree }
-    ensures { IfOk result (λ a. (budget : ℕ) → HaveEnded inst.now incumbent.entry.plan budget made tree → Answers inst.now tree incumbent.entry.plan made budget a) }
+// What the tree and the best plan show.
+fn answer(search: Search<'_>, tree: Tree, made: u32) -> Result<Answer, NoMemory>
+    requires stands { StandsOn tree search.best.instance }
+    requires ended { (budget : ℕ) × HaveEnded search.best.instance search.best.plan budget made tree }
+    ensures { IfOk result (λ a. (budget : ℕ) → HaveEnded search.entry.best.instance search.entry.best.plan budget made tree →
+        Answers search.entry.best.instance tree search.entry.best.plan made budget a) }
 {
+    let inst = search.instance();
     let _nodes = tree.nodes();
-    if !tree.accepts(inst, incumbent.cost())? {
+    if !tree.accepts(inst, search.cost())? {
         let low = tree.low(inst)?;
-        let plan = incumbent.into_plan();
+        let plan = search.into_plan();
         return Ok(Answer::Bracket {
             low,
             plan,
@@ -166,7 +123,7 @@ fn answer(
             made,
         });
     }
-    match incumbent.into_plan() {
+    match search.into_plan() {
         None => Ok(Answer::Infeasible { tree, made }),
         Some(plan) => {
             let cost = plan_cost(inst, &plan);

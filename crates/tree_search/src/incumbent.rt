@@ -67,8 +67,19 @@ impl<'a> Incumbent<'a> {
         }
     }
 
-    /// Takes this plan over where it costs less.
-    pub(crate) fn offer(&mut self, plan: Plan)
+    /// Takes this plan over, if there is one, where it costs less.
+    pub(crate) fn offer(&mut self, plan: Option<Plan>)
+        requires { IfSome plan (IsFeasible self.old.instance) }
+        ensures improves { Improves self.old self.new }
+        ensures offered { IsNoWorse self.old.instance self.new.plan plan }
+    {
+        if let Some(plan) = plan {
+            self.offer_plan(plan);
+        }
+    }
+
+    // Takes this plan over where it costs less.
+    fn offer_plan(&mut self, plan: Plan)
         requires { IsFeasible self.old.instance plan }
         ensures improves { Improves self.old self.new }
         ensures offered { IsNoWorse self.old.instance self.new.plan (Some plan) }

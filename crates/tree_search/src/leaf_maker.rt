@@ -1,45 +1,53 @@
 //! The duals of a leaf while it is made.
-ghost use Rattle.std.specs.Prelude.{◌≡◌, ◌≢◌, ◌↔◌, ◌⊎◌, ◌<◌, ◌≤◌, ℕ, IfOk, IfSome, IfNone, IsTrue, length, unsigned_abs};
+ghost use Rattle.std.specs.Prelude.{◌≡◌, ◌≢◌, ◌↔◌, ◌⊎◌, ◌<◌, IfOk, OnOk, IfSome, IfNone, IsTrue, length};
 ghost use Rattle.location_terms.specs.Instance.{IsValid};
 ghost use Rattle.location_terms.specs.Box.{Path as Decisions};
 ghost use Rattle.location_terms.specs.Bound.{Duals as Prices, bound_of};
 ghost use Rattle.location_terms.specs.Fit.{DualsFit, AreTame, BoundCloses};
 ghost use Rattle.lane_order.specs.Order.{IsOrderOf};
-ghost use Rattle.dual_ascent.specs.Kept.{Keeps};
 ghost use Rattle.dual_ascent.specs.Levels.{servers};
 ghost use Rattle.dual_adjust.specs.Slackness.{tight_sites};
-ghost use Rattle.dual_adjust.specs.Present.{HasAscended};
-ghost use Rattle.dual_value.specs.Scales.{IsAtLeast, IsGreater};
+ghost use Rattle.dual_steps.specs.Sizes.{sizes_of};
+ghost use Rattle.dual_value.specs.Scales.{IsAtLeast};
 ghost use Rattle.dual_value.specs.Zeros.{zeros};
 ghost use Rattle.plan_search.specs.InBox.{HasNoCaps};
-ghost use Rattle.tree_search.specs.Made.{AreServed, IsMadeLeaf, IsMadeScale, IsPlainAscent};
-ghost use Rattle.tree_search.specs.Making.{LowersNone, IsMaking, StaysMaking};
+ghost use Rattle.tree_search.specs.Made.{AreServed, IsMadeLeaf, IsMadeScale};
+ghost use Rattle.tree_search.specs.Making.{LowersNone, IsMaking, Makes, StaysMaking};
 
-use crate::ascents::{ascent_of, copy_of, plain_ascent, zeros_at};
-use dual_adjust::{Trials, adjust_in};
-use dual_value::{Duals, MAX_BOUND, PreparedBox, closes, is_greater, tame};
+use crate::ascents::{ascent_of, zeros_at};
+use dual_adjust::{Trials, adjust_once};
+use dual_value::{Duals, PreparedBox, closes, is_greater, tame};
 use instance_store::{Instance, NoMemory, SiteId};
 use lane_order::LaneOrder;
 use location_terms::MAX_SCALE;
 use std::alloc::Global;
 use std::marker::Model;
 
-/// What is found of a leaf: the plain ascent of its box, and the best duals so far.
+/// What is found of the leaf at work: the plain ascent of its box, and the best duals so far. It is made
+/// once for a search.
 #[derive(Drop)]
 pub struct LeafMaker {
-    plain: Trials,
+    // Duals of 0 at scale 1, from which the plain ascents start.
+    zeros: Duals,
+    plain: Duals,
+    plain_bound: i128,
+    // The tight sites of the plain ascent.
+    hint: Vec<SiteId>,
     // Duals with the prices and the scale of the plain ascent.
     alike: Trials,
     // Duals of any made scale and of any prices.
     other: Trials,
-    // Which of the two are the best.
+    // Which of the two are the best, and their bound.
     is_other: bool,
+    bound: i128,
 }
 
 impl Model for LeafMaker {
-    ghost use Rattle.tree_search.specs.Making.{Making};
+    ghost use Rattle.tree_search.specs.Making.{Making, making_code};
 
     ghost Value = { Making };
+
+    ghost coded = { making_code };
 
     ghost use Rattle.tree_search.specs.Stored.{making_of, AreAlike};
 
@@ -49,26 +57,114 @@ impl Model for LeafMaker {
 }
 
 impl LeafMaker {
-    /// The ascents in the box from zeros, from the duals of the leaf that is replaced and from those of a
-    /// box near by: the best of the three, each where it may be used. It fails only where memory runs out.
-    pub fn of(
+    /// What it takes to make leaves of this instance. It fails only where memory runs out.
+    pub fn of(alloc: Global, inst: &Instance) -> Result<LeafMaker, NoMemory>
+        ensures { IfOk result (λ m. m.sizes ≡ sizes_of inst.now) }
+    {
+        let zeros = Duals::zeros(alloc, inst, 1)?;
+        let plain = zeros.copied()?;
+        let alike = zeros_at(alloc, inst, 1)?;
+        let other = zeros_at(alloc, inst, 1)?;
+        Ok(LeafMaker {
+            zeros,
+            plain,
+            plain_bound: 0,
+            hint: Vec::new(alloc),
+            alike,
+            other,
+            is_other: false,
+            bound: 0,
+        })
+    }
+
+    /// Goes into a box, with the ascents there from zeros, from the duals of the leaf that is replaced and
+    /// from those of a box near by: the best of the three, each where it may be used. It fails only where
+    /// memory runs out.
+    pub fn enter(
+        &mut self,
         alloc: Global,
         boxed: &PreparedBox<'_>,
         order: &LaneOrder,
         old: &Duals,
         near: &Duals,
-    ) -> Result<LeafMaker, NoMemory>
+    ) -> Result<(), NoMemory>
         requires order { IsOrderOf order.now boxed.now.instance }
         requires old { DualsFit boxed.now.instance old.now }
         requires near { DualsFit boxed.now.instance near.now }
         requires no_caps { HasNoCaps boxed.now.instance }
-        ensures { IfOk result (λ m. (old_path : Decisions) → LowersNone boxed.now.instance old_path boxed.now.path →
-            IsMaking boxed.now.instance old_path old.now boxed.now.path m) }
+        requires sizes { self.old.sizes ≡ sizes_of boxed.now.instance }
+        ensures making { OnOk result ((old_path : Decisions) → LowersNone boxed.now.instance old_path boxed.now.path →
+            IsMaking boxed.now.instance old_path old.now boxed.now.path self.new) }
+        ensures sizes { self.new.sizes ≡ self.old.sizes }
     {
-        let plain = plain_ascent(alloc, boxed, order)?;
-        let maker = begun(alloc, boxed, order, plain)?;
-        let maker = with_taken(alloc, boxed, order, maker, near)?;
-        with_taken(alloc, boxed, order, maker, old)
+        self.begin(alloc, boxed, order)?;
+        self.take(alloc, boxed, order, old)?;
+        if are_same(near, old) {
+            return Ok(());
+        }
+        self.take(alloc, boxed, order, near)?;
+        Ok(())
+    }
+
+    // The plain ascent, as the best duals too, below no leaf yet: duals of scale 0 are never replaced.
+    fn begin(
+        &mut self,
+        alloc: Global,
+        boxed: &PreparedBox<'_>,
+        order: &LaneOrder,
+    ) -> Result<(), NoMemory>
+        requires order { IsOrderOf order.now boxed.now.instance }
+        requires no_caps { HasNoCaps boxed.now.instance }
+        requires sizes { self.old.sizes ≡ sizes_of boxed.now.instance }
+        ensures making { OnOk result (IsMaking boxed.now.instance boxed.now.path (zeros boxed.now.instance 0) boxed.now.path self.new) }
+        ensures sizes { self.new.sizes ≡ self.old.sizes }
+    {
+        self.alike.copy_values(&self.zeros);
+        self.alike.ascend(boxed, order);
+        self.plain.copy_values(self.alike.duals());
+        let bound = self.alike.bound(boxed);
+        self.plain_bound = bound;
+        self.bound = bound;
+        self.is_other = false;
+        let hint = self.alike.tight_sites(alloc, boxed)?;
+        self.hint = hint;
+        Ok(())
+    }
+
+    // Takes the ascent of these duals, where they may be used and it is better than the best so far. It
+    // fails only where memory runs out.
+    fn take(
+        &mut self,
+        alloc: Global,
+        boxed: &PreparedBox<'_>,
+        order: &LaneOrder,
+        duals: &Duals,
+    ) -> Result<(), NoMemory>
+        requires order { IsOrderOf order.now boxed.now.instance }
+        requires fit { DualsFit boxed.now.instance duals.now }
+        requires no_caps { HasNoCaps boxed.now.instance }
+        requires making { Makes boxed.now.instance boxed.now.path self.old }
+        ensures stays { OnOk result (StaysMaking boxed.now.instance boxed.now.path self.old self.new) }
+        ensures taken { OnOk result (AreTame boxed.now.instance duals.now → IsMadeScale boxed.now.instance duals.now.q →
+            IsAtLeast (bound_of boxed.now.instance boxed.now.path self.new.best.duals) self.new.best.duals.q (bound_of boxed.now.instance boxed.now.path duals.now) duals.now.q) }
+        ensures sizes { self.new.sizes ≡ self.old.sizes }
+    {
+        // The ascent of zeros is the plain one.
+        if are_same(duals, &self.zeros) {
+            return Ok(());
+        }
+        if !is_usable(duals, boxed.instance()) {
+            return Ok(());
+        }
+        let risen = ascent_of(alloc, boxed, order, duals)?;
+        let bound = risen.bound(boxed);
+        if !is_greater(bound, risen.duals().q(), self.bound, self.duals().q()) {
+            return Ok(());
+        }
+        self.other = risen;
+        self.is_other = true;
+        self.bound = bound;
+        Ok(())
     }
 
     /// Takes these numbers, in millionths, as duals of scale 1, as far as they are in range, and lets
@@ -77,19 +173,24 @@ impl LeafMaker {
         requires order { IsOrderOf order.now boxed.now.instance }
         requires long { length values.now ≡ length boxed.now.instance.customers }
         requires no_caps { HasNoCaps boxed.now.instance }
-        requires making { (old_path : Decisions) × (old : Prices) × IsMaking boxed.now.instance old_path old boxed.now.path self.old }
-        ensures { StaysMaking boxed.now.instance boxed.now.path self.old self.new }
+        requires making { Makes boxed.now.instance boxed.now.path self.old }
+        ensures stays { StaysMaking boxed.now.instance boxed.now.path self.old self.new }
+        ensures sizes { self.new.sizes ≡ self.old.sizes }
     {
-        let bound = self.best().bound(boxed);
         let scale = self.duals().q();
-        if !self.alike.rises_from(boxed, order, values, bound, scale) {
+        if !self
+            .alike
+            .rises_from(boxed, order, values, self.bound, scale)
+        {
             return false;
         }
         self.is_other = false;
+        self.bound = self.alike.bound(boxed);
         true
     }
 
-    /// The same of duals of the greatest scale: `values` are in that fraction of a millionth.
+    /// The same of duals of the greatest scale: `values` are in that fraction of a millionth. It fails
+    /// only where memory runs out.
     pub fn point_finely(
         &mut self,
         alloc: Global,
@@ -100,67 +201,58 @@ impl LeafMaker {
         requires order { IsOrderOf order.now boxed.now.instance }
         requires long { length values.now ≡ length boxed.now.instance.customers }
         requires no_caps { HasNoCaps boxed.now.instance }
-        requires making { (old_path : Decisions) × (old : Prices) × IsMaking boxed.now.instance old_path old boxed.now.path self.old }
-        ensures { StaysMaking boxed.now.instance boxed.now.path self.old self.new }
+        requires making { Makes boxed.now.instance boxed.now.path self.old }
+        ensures stays { StaysMaking boxed.now.instance boxed.now.path self.old self.new }
+        ensures sizes { self.new.sizes ≡ self.old.sizes }
     {
-        let bound = self.best().bound(boxed);
         let scale = self.duals().q();
         let mut fine = zeros_at(alloc, boxed.instance(), MAX_SCALE)?;
-        if !fine.rises_from(boxed, order, values, bound, scale) {
+        if !fine.rises_from(boxed, order, values, self.bound, scale) {
             return Ok(false);
         }
+        self.bound = fine.bound(boxed);
         self.other = fine;
         self.is_other = true;
         Ok(true)
-    }
-
-    /// Adjusts the best duals, up to so many rounds.
-    pub fn adjust(&mut self, boxed: &PreparedBox<'_>, order: &LaneOrder, rounds: u32)
-        requires order { IsOrderOf order.now boxed.now.instance }
-        requires making { (old_path : Decisions) × (old : Prices) × IsMaking boxed.now.instance old_path old boxed.now.path self.old }
-        ensures { StaysMaking boxed.now.instance boxed.now.path self.old self.new }
-    {
-        if self.is_other {
-            adjust_in(boxed, order, &mut self.other, rounds);
-            return;
-        }
-        adjust_in(boxed, order, &mut self.alike, rounds);
     }
 
     /// Sees to it that the best duals are better than the plain ascent where that gains: they are then
     /// those of a made leaf.
     pub fn settle(&mut self, boxed: &PreparedBox<'_>, order: &LaneOrder)
         requires order { IsOrderOf order.now boxed.now.instance }
-        requires making { (old_path : Decisions) × (old : Prices) × IsMaking boxed.now.instance old_path old boxed.now.path self.old }
+        requires making { Makes boxed.now.instance boxed.now.path self.old }
         ensures stays { StaysMaking boxed.now.instance boxed.now.path self.old self.new }
         ensures made { (old_path : Decisions) → (old : Prices) → AreServed boxed.now.instance boxed.now.path →
             IsMaking boxed.now.instance old_path old boxed.now.path self.old →
             IsMadeLeaf boxed.now.instance old_path old boxed.now.path self.new.best.duals }
+        ensures sizes { self.new.sizes ≡ self.old.sizes }
     {
-        let bound = self.best().bound(boxed);
-        let scale = self.duals().q();
-        if is_better(bound, scale, &self.plain, boxed) {
+        if is_greater(
+            self.bound,
+            self.duals().q(),
+            self.plain_bound,
+            self.plain.q(),
+        ) {
             return;
         }
-        self.alike.copy_values(self.plain.duals());
-        adjust_in(boxed, order, &mut self.alike, 1);
+        self.alike.copy_values(&self.plain);
+        adjust_once(boxed, order, &mut self.alike);
         self.is_other = false;
+        self.bound = self.alike.bound(boxed);
     }
 
     /// Whether the best duals close the box against the target.
-    pub fn closes(&self, boxed: &PreparedBox<'_>, target: Option<u64>) -> bool
-        requires making { (old_path : Decisions) × (old : Prices) × IsMaking boxed.now.instance old_path old boxed.now.path self.now }
-        ensures { IsTrue result ↔ BoundCloses (bound_of boxed.now.instance boxed.now.path self.now.best.duals) self.now.best.duals.q target }
+    pub fn closes(&self, target: Option<u64>) -> bool
+        ensures { IsTrue result ↔ BoundCloses self.now.bound self.now.best.duals.q target }
     {
-        closes(self.bound(boxed), self.duals().q(), target)
+        closes(self.bound, self.duals().q(), target)
     }
 
     /// The bound of the box at the best duals, in millionths times their scale.
-    pub fn bound(&self, boxed: &PreparedBox<'_>) -> i128
-        requires making { (old_path : Decisions) × (old : Prices) × IsMaking boxed.now.instance old_path old boxed.now.path self.now }
-        ensures { result ≡ bound_of boxed.now.instance boxed.now.path self.now.best.duals }
+    pub fn bound(&self) -> i128
+        ensures { result ≡ self.now.bound }
     {
-        self.best().bound(boxed)
+        self.bound
     }
 
     /// The best duals.
@@ -183,22 +275,17 @@ impl LeafMaker {
         alloc: Global,
         boxed: &PreparedBox<'_>,
     ) -> Result<Vec<SiteId>, NoMemory>
-        requires making { (old_path : Decisions) × (old : Prices) × IsMaking boxed.now.instance old_path old boxed.now.path self.now }
+        requires making { Makes boxed.now.instance boxed.now.path self.now }
         ensures { IfOk result (λ sites. sites.items ≡ tight_sites boxed.now.instance boxed.now.path self.now.best.duals) }
     {
         self.best().tight_sites(alloc, boxed)
     }
 
-    /// The tight sites of the box in the plain ascent. It fails only where memory runs out.
-    pub fn plain_tight_sites(
-        &self,
-        alloc: Global,
-        boxed: &PreparedBox<'_>,
-    ) -> Result<Vec<SiteId>, NoMemory>
-        requires making { (old_path : Decisions) × (old : Prices) × IsMaking boxed.now.instance old_path old boxed.now.path self.now }
-        ensures { IfOk result (λ sites. sites.items ≡ tight_sites boxed.now.instance boxed.now.path self.now.plain.duals) }
+    /// The tight sites of the box in the plain ascent.
+    pub fn plain_tight_sites(&self) -> &[SiteId]
+        ensures { result.now ≡ self.now.hint }
     {
-        self.plain.tight_sites(alloc, boxed)
+        &self.hint
     }
 
     // What the best duals are kept in.
@@ -210,110 +297,22 @@ impl LeafMaker {
         }
         &self.alike
     }
+}
 
-    // Takes the ascent of these duals, where they may be used and it is better than the best so far. It
-    // fails only where memory runs out.
-    fn take(
-        &mut self,
-        alloc: Global,
-        boxed: &PreparedBox<'_>,
-        order: &LaneOrder,
-        duals: &Duals,
-    ) -> Result<(), NoMemory>
-        requires order { IsOrderOf order.now boxed.now.instance }
-        requires fit { DualsFit boxed.now.instance duals.now }
-        requires no_caps { HasNoCaps boxed.now.instance }
-        requires making { (old_path : Decisions) × (old : Prices) × IsMaking boxed.now.instance old_path old boxed.now.path self.old }
-        ensures stays { IfOk result (λ _. StaysMaking boxed.now.instance boxed.now.path self.old self.new) }
-        ensures taken { IfOk result (λ _. AreTame boxed.now.instance duals.now → IsMadeScale boxed.now.instance duals.now.q →
-            IsAtLeast (bound_of boxed.now.instance boxed.now.path self.new.best.duals) self.new.best.duals.q (bound_of boxed.now.instance boxed.now.path duals.now) duals.now.q) }
-    {
-        if !is_usable(duals, boxed.instance()) {
-            return Ok(());
-        }
-        let risen = ascent_of(alloc, boxed, order, duals)?;
-        if !is_better(risen.bound(boxed), risen.duals().q(), self.best(), boxed) {
-            return Ok(());
-        }
-        self.other = risen;
-        self.is_other = true;
-        Ok(())
+// Whether these are the same duals.
+fn are_same(duals: &Duals, other: &Duals) -> bool
+    ensures { IsTrue result → duals.now ≡ other.now }
+{
+    if duals.q() != other.q() {
+        return false;
     }
-}
-
-// Several `Trials` in one function that may fail at several places are slow to prove, so each step has a
-// function of its own, and what it has made goes on by value.
-
-// The plain ascent with its own ascent as the best duals, below no leaf yet: duals of scale 0 are never
-// replaced.
-fn begun(
-    alloc: Global,
-    boxed: &PreparedBox<'_>,
-    order: &LaneOrder,
-    plain: Trials,
-) -> Result<LeafMaker, NoMemory>
-    requires order { IsOrderOf order.now boxed.now.instance }
-    requires risen { HasAscended boxed.now.instance boxed.now.path plain }
-    requires plain { IsPlainAscent boxed.now.instance boxed.now.path plain.duals }
-    ensures { IfOk result (λ m. IsMaking boxed.now.instance boxed.now.path (zeros boxed.now.instance 0) boxed.now.path m) }
-{
-    let alike = ascent_of(alloc, boxed, order, plain.duals())?;
-    with_alike(alloc, boxed, plain, alike)
-}
-
-// The plain ascent with these duals as the best.
-fn with_alike(
-    alloc: Global,
-    boxed: &PreparedBox<'_>,
-    plain: Trials,
-    alike: Trials,
-) -> Result<LeafMaker, NoMemory>
-    requires risen { HasAscended boxed.now.instance boxed.now.path plain }
-    requires plain { IsPlainAscent boxed.now.instance boxed.now.path plain.duals }
-    requires alike_risen { HasAscended boxed.now.instance boxed.now.path alike }
-    requires keeps { Keeps boxed.now.instance boxed.now.path plain.duals alike.duals }
-    ensures { IfOk result (λ m. IsMaking boxed.now.instance boxed.now.path (zeros boxed.now.instance 0) boxed.now.path m) }
-{
-    let other = copy_of(alloc, boxed.instance(), plain.duals())?;
-    Ok(LeafMaker {
-        plain,
-        alike,
-        other,
-        is_other: false,
-    })
-}
-
-// What is made with the ascent of these duals, where they may be used and it is better than the best so
-// far.
-fn with_taken(
-    alloc: Global,
-    boxed: &PreparedBox<'_>,
-    order: &LaneOrder,
-    maker: LeafMaker,
-    duals: &Duals,
-) -> Result<LeafMaker, NoMemory>
-    requires order { IsOrderOf order.now boxed.now.instance }
-    requires fit { DualsFit boxed.now.instance duals.now }
-    requires no_caps { HasNoCaps boxed.now.instance }
-    requires making { (old_path : Decisions) × (old : Prices) × IsMaking boxed.now.instance old_path old boxed.now.path maker }
-    ensures stays { IfOk result (λ m. StaysMaking boxed.now.instance boxed.now.path maker m) }
-    ensures taken { IfOk result (λ m. AreTame boxed.now.instance duals.now → IsMadeScale boxed.now.instance duals.now.q →
-        IsAtLeast (bound_of boxed.now.instance boxed.now.path m.best.duals) m.best.duals.q (bound_of boxed.now.instance boxed.now.path duals.now) duals.now.q) }
-{
-    let mut maker = maker;
-    maker.take(alloc, boxed, order, duals)?;
-    Ok(maker)
-}
-
-// Whether a bound at this scale is greater than that of the box at these duals.
-fn is_better(bound: i128, scale: u32, trials: &Trials, boxed: &PreparedBox<'_>) -> bool
-    requires small { unsigned_abs bound ≤ MAX_BOUND }
-    requires scaled { 1 ≤ scale }
-    requires scale { scale ≤ MAX_SCALE }
-    requires risen { HasAscended boxed.now.instance boxed.now.path trials.now }
-    ensures { IsTrue result ↔ IsGreater bound scale (bound_of boxed.now.instance boxed.now.path trials.now.duals) trials.now.duals.q }
-{
-    is_greater(bound, scale, trials.bound(boxed), trials.duals().q())
+    if duals.nu() != other.nu() {
+        return false;
+    }
+    if duals.values() != other.values() {
+        return false;
+    }
+    duals.prices() == other.prices()
 }
 
 // Whether an ascent may start from these duals where no site has a capacity, and its leaf may be made.

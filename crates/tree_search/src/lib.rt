@@ -15,8 +15,10 @@ mod limits;
 mod pointing;
 mod proposing;
 mod rounds;
+mod search;
 mod splitting;
 mod strengthen;
+mod tried;
 mod work;
 
 pub use answer::Answer;

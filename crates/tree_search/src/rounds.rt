@@ -1,27 +1,15 @@
 //! The rounds of steps in the box of no decisions, on which all others stand.
 ghost use Rattle.std.specs.Prelude.{◌≡◌, OnOk};
-ghost use Rattle.location_terms.specs.Box.{Path as Decisions};
-ghost use Rattle.location_terms.specs.Bound.{Duals as Prices};
-ghost use Rattle.lane_order.specs.Order.{IsOrderOf};
-ghost use Rattle.dual_steps.specs.Sizes.{sizes_of};
-ghost use Rattle.plan_search.specs.InBox.{IsPathOf, HasNoCaps};
-ghost use Rattle.tree_search.specs.Making.{IsMaking, StaysMaking};
-ghost use Rattle.tree_search.specs.Best.{Improves};
+ghost use Rattle.tree_search.specs.Searching.{IsAt, GoesOn};
 
 use crate::course::Course;
-use crate::helpers::Helpers;
-use crate::incumbent::Incumbent;
-use crate::leaf_maker::LeafMaker;
-use crate::pointing::{left_of, point, target_of};
-use crate::proposing::{seek_shares, seek_tight};
-use crate::strengthen::start;
+use crate::helpers::Hint;
+use crate::pointing::point;
+use crate::proposing::{seek, seek_shares};
+use crate::search::Search;
+use crate::strengthen::NEAR;
 use dual_value::PreparedBox;
 use instance_store::NoMemory;
-use lane_order::LaneOrder;
-use std::alloc::Global;
-
-// Rounds of the adjustment before any step.
-const ADJUSTMENTS: u32 = 2;
 
 // The most rounds.
 const ROUNDS: u32 = 40;
@@ -37,110 +25,79 @@ const FACTOR: f64 = 0.5;
 // Sweeps behind the steps of a round that came near the target.
 const SWEEPS: u32 = 30;
 
-/// Raises the bound by rounds of steps, and looks for plans after each.
-pub(crate) fn root_rounds(
-    alloc: Global,
-    boxed: &PreparedBox<'_>,
-    order: &LaneOrder,
-    leaf: &mut LeafMaker,
-    incumbent: &mut Incumbent<'_>,
-    helpers: &mut Helpers,
-) -> Result<(), NoMemory>
-    requires order { IsOrderOf order.now boxed.now.instance }
-    requires path { IsPathOf boxed.now.instance boxed.now.path }
-    requires no_caps { HasNoCaps boxed.now.instance }
-    requires instance { incumbent.old.instance ≡ boxed.now.instance }
-    requires sizes { helpers.old ≡ sizes_of boxed.now.instance }
-    requires making { (old_path : Decisions) × (old : Prices) × IsMaking boxed.now.instance old_path old boxed.now.path leaf.old }
-    ensures leaf { OnOk result (StaysMaking boxed.now.instance boxed.now.path leaf.old leaf.new) }
-    ensures plan { OnOk result (Improves incumbent.old incumbent.new) }
-    ensures sizes { OnOk result (helpers.new ≡ helpers.old) }
+/// Raises the bound by rounds of steps, and looks for plans after each. It fails only where memory runs
+/// out.
+pub(crate) fn root_rounds(search: &mut Search<'_>, boxed: &PreparedBox<'_>) -> Result<(), NoMemory>
+    requires { IsAt boxed.now search.old }
+    ensures { OnOk result (GoesOn boxed.now search.old search.new) }
 {
-    leaf.adjust(boxed, order, ADJUSTMENTS);
-    seek_tight(alloc, boxed, order, leaf, incumbent)?;
-    start(boxed, order, leaf, helpers);
-    helpers.steps.restart(FACTOR);
-    rounds(alloc, boxed, order, leaf, incumbent, helpers)
+    seek(search, boxed, Hint::Tight)?;
+    search.start_steps();
+    search.restart_steps(FACTOR);
+    rounds(search, boxed)?;
+    Ok(())
 }
 
-fn rounds(
-    alloc: Global,
-    boxed: &PreparedBox<'_>,
-    order: &LaneOrder,
-    leaf: &mut LeafMaker,
-    incumbent: &mut Incumbent<'_>,
-    helpers: &mut Helpers,
-) -> Result<(), NoMemory>
-    requires order { IsOrderOf order.now boxed.now.instance }
-    requires path { IsPathOf boxed.now.instance boxed.now.path }
-    requires no_caps { HasNoCaps boxed.now.instance }
-    requires instance { incumbent.old.instance ≡ boxed.now.instance }
-    requires sizes { helpers.old ≡ sizes_of boxed.now.instance }
-    requires making { (old_path : Decisions) × (old : Prices) × IsMaking boxed.now.instance old_path old boxed.now.path leaf.old }
-    ensures leaf { OnOk result (StaysMaking boxed.now.instance boxed.now.path leaf.old leaf.new) }
-    ensures plan { OnOk result (Improves incumbent.old incumbent.new) }
-    ensures sizes { OnOk result (helpers.new ≡ helpers.old) }
+fn rounds(search: &mut Search<'_>, boxed: &PreparedBox<'_>) -> Result<(), NoMemory>
+    requires { IsAt boxed.now search.old }
+    ensures { OnOk result (GoesOn boxed.now search.old search.new) }
 {
     let mut course = Course::new();
     for _round in 0..ROUNDS {
-        if leaf.closes(boxed, incumbent.cost()) || course.is_over() {
+        if search.closes() || course.is_over() {
             return Ok(());
         }
-        round(alloc, boxed, order, leaf, incumbent, helpers, &mut course)?;
+        round(search, boxed, &mut course)?;
     }
     Ok(())
 }
 
 fn round(
-    alloc: Global,
+    search: &mut Search<'_>,
     boxed: &PreparedBox<'_>,
-    order: &LaneOrder,
-    leaf: &mut LeafMaker,
-    incumbent: &mut Incumbent<'_>,
-    helpers: &mut Helpers,
     course: &mut Course,
 ) -> Result<(), NoMemory>
-    requires order { IsOrderOf order.now boxed.now.instance }
-    requires path { IsPathOf boxed.now.instance boxed.now.path }
-    requires no_caps { HasNoCaps boxed.now.instance }
-    requires instance { incumbent.old.instance ≡ boxed.now.instance }
-    requires sizes { helpers.old ≡ sizes_of boxed.now.instance }
-    requires making { (old_path : Decisions) × (old : Prices) × IsMaking boxed.now.instance old_path old boxed.now.path leaf.old }
-    ensures leaf { OnOk result (StaysMaking boxed.now.instance boxed.now.path leaf.old leaf.new) }
-    ensures plan { OnOk result (Improves incumbent.old incumbent.new) }
-    ensures sizes { OnOk result (helpers.new ≡ helpers.old) }
+    requires { IsAt boxed.now search.old }
+    ensures { OnOk result (GoesOn boxed.now search.old search.new) }
 {
-    let before = left_of(incumbent, helpers);
-    step(alloc, boxed, order, incumbent, helpers, course)?;
-    seek_shares(alloc, boxed, order, incumbent, helpers)?;
-    helpers.steps.snap(order, target_of(incumbent));
-    point(alloc, boxed, order, leaf, incumbent, helpers)?;
-    course.advance(before, left_of(incumbent, helpers), target_of(incumbent));
+    let before = search.left();
+    step(search, course)?;
+    seek_shares(search, boxed)?;
+    snap_near(search);
+    point(search, boxed)?;
+    course.advance(before, search.left(), search.target());
     Ok(())
 }
 
-// The steps of one round.
-fn step(
-    alloc: Global,
-    boxed: &PreparedBox<'_>,
-    order: &LaneOrder,
-    incumbent: &Incumbent<'_>,
-    helpers: &mut Helpers,
-    course: &Course,
-) -> Result<(), NoMemory>
-    requires order { IsOrderOf order.now boxed.now.instance }
-    requires sizes { helpers.old ≡ sizes_of boxed.now.instance }
-    ensures { OnOk result (helpers.new ≡ helpers.old) }
+// Puts the duals onto fractions of the costs' unit, where that may be all that is missing.
+fn snap_near(search: &mut Search<'_>)
+    ensures { search.new ≡ search.old }
 {
-    let target = target_of(incumbent);
+    if search.is_near(NEAR) {
+        let target = search.target();
+        search.helpers.steps.snap(search.order, target);
+    }
+}
+
+// The steps of one round.
+fn step(search: &mut Search<'_>, course: &Course) -> Result<(), NoMemory>
+    ensures { OnOk result (search.new ≡ search.old) }
+{
+    let target = search.target();
     if !course.is_exact() {
-        helpers.steps.volume(order, target, STEPS, MISSES);
+        search
+            .helpers
+            .steps
+            .volume(search.order, target, STEPS, MISSES);
         return Ok(());
     }
-    helpers.refer_to(boxed, order, incumbent);
-    helpers.steps.polyak(order, target, STEPS);
-    if course.is_near(left_of(incumbent, helpers), target) {
-        helpers.steps.project(alloc, order, target, SWEEPS)?;
+    search.refer_to_plan();
+    search.helpers.steps.polyak(search.order, target, STEPS);
+    if course.is_near(search.left(), target) {
+        search
+            .helpers
+            .steps
+            .project(search.alloc, search.order, target, SWEEPS)?;
     }
     Ok(())
 }

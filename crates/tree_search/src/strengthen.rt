@@ -1,25 +1,15 @@
 //! What makes an open leaf stronger, and finds plans.
 ghost use Rattle.std.specs.Prelude.{◌≡◌, OnOk};
-ghost use Rattle.location_terms.specs.Box.{Path as Decisions};
-ghost use Rattle.location_terms.specs.Bound.{Duals as Prices};
-ghost use Rattle.lane_order.specs.Order.{IsOrderOf};
-ghost use Rattle.dual_steps.specs.Sizes.{sizes_of};
-ghost use Rattle.plan_search.specs.InBox.{IsPathOf, HasNoCaps};
-ghost use Rattle.tree_search.specs.Making.{IsMaking, StaysMaking};
-ghost use Rattle.tree_search.specs.Best.{Improves};
+ghost use Rattle.tree_search.specs.Searching.{IsAt, GoesOn};
 
-use crate::helpers::Helpers;
-use crate::incumbent::Incumbent;
-use crate::leaf_maker::LeafMaker;
-use crate::pointing::{left_of, point, target_of};
+use crate::pointing::point;
 use crate::rounds::root_rounds;
+use crate::search::Search;
 use dual_value::PreparedBox;
 use instance_store::NoMemory;
-use lane_order::LaneOrder;
-use std::alloc::Global;
 
-// Where less than this part of the target is left, the bound may come up to it.
-const NEAR: f64 = 0.0001;
+/// Where less than this part of the target is left, the bound may come up to it.
+pub(crate) const NEAR: f64 = 0.0001;
 
 // In a box of some decisions: how many steps are taken, after how many misses they become shorter, and
 // by which part of a whole step they begin.
@@ -41,77 +31,55 @@ const SWEEPS: u32 = 50;
 
 /// Makes an open leaf stronger, and looks for better plans in its box. Of it is believed only that the
 /// leaf stays making and that neither gets worse. It fails only where memory runs out.
-pub(crate) fn strengthen(
-    alloc: Global,
-    boxed: &PreparedBox<'_>,
-    order: &LaneOrder,
-    leaf: &mut LeafMaker,
-    incumbent: &mut Incumbent<'_>,
-    helpers: &mut Helpers,
-) -> Result<(), NoMemory>
-    requires order { IsOrderOf order.now boxed.now.instance }
-    requires path { IsPathOf boxed.now.instance boxed.now.path }
-    requires no_caps { HasNoCaps boxed.now.instance }
-    requires instance { incumbent.old.instance ≡ boxed.now.instance }
-    requires sizes { helpers.old ≡ sizes_of boxed.now.instance }
-    requires making { (old_path : Decisions) × (old : Prices) × IsMaking boxed.now.instance old_path old boxed.now.path leaf.old }
-    ensures leaf { OnOk result (StaysMaking boxed.now.instance boxed.now.path leaf.old leaf.new) }
-    ensures plan { OnOk result (Improves incumbent.old incumbent.new) }
-    ensures sizes { OnOk result (helpers.new ≡ helpers.old) }
+pub(crate) fn strengthen(search: &mut Search<'_>, boxed: &PreparedBox<'_>) -> Result<(), NoMemory>
+    requires { IsAt boxed.now search.old }
+    ensures { OnOk result (GoesOn boxed.now search.old search.new) }
 {
-    helpers.steps.enter(boxed);
+    search.enter_steps(boxed);
     if boxed.path().steps() == 0 {
-        return root_rounds(alloc, boxed, order, leaf, incumbent, helpers);
-    }
-    start(boxed, order, leaf, helpers);
-    step(boxed, order, incumbent, helpers);
-    point(alloc, boxed, order, leaf, incumbent, helpers)?;
-    if leaf.closes(boxed, incumbent.cost()) || !may_close(incumbent, helpers) {
+        root_rounds(search, boxed)?;
         return Ok(());
     }
-    closing_rounds(alloc, boxed, order, leaf, incumbent, helpers)
+    node_steps(search, boxed)?;
+    Ok(())
 }
 
-/// Lets the steps start from the best duals of the leaf.
-pub(crate) fn start(
-    boxed: &PreparedBox<'_>,
-    order: &LaneOrder,
-    leaf: &LeafMaker,
-    helpers: &mut Helpers,
-)
-    requires order { IsOrderOf order.now boxed.now.instance }
-    requires sizes { helpers.old ≡ sizes_of boxed.now.instance }
-    ensures { helpers.new ≡ helpers.old }
+// In a box of some decisions.
+fn node_steps(search: &mut Search<'_>, boxed: &PreparedBox<'_>) -> Result<(), NoMemory>
+    requires { IsAt boxed.now search.old }
+    ensures { OnOk result (GoesOn boxed.now search.old search.new) }
 {
-    let duals = leaf.duals();
-    helpers.steps.start_from(order, duals.values(), duals.q());
+    search.start_steps();
+    step(search);
+    point(search, boxed)?;
+    if search.closes() || !may_close(search) {
+        return Ok(());
+    }
+    closing_rounds(search, boxed)?;
+    Ok(())
 }
 
 // Takes the steps of a box of some decisions.
-fn step(
-    boxed: &PreparedBox<'_>,
-    order: &LaneOrder,
-    incumbent: &Incumbent<'_>,
-    helpers: &mut Helpers,
-)
-    requires order { IsOrderOf order.now boxed.now.instance }
-    requires sizes { helpers.old ≡ sizes_of boxed.now.instance }
-    ensures { helpers.new ≡ helpers.old }
+fn step(search: &mut Search<'_>)
+    ensures { search.new ≡ search.old }
 {
-    let target = target_of(incumbent);
-    if left_of(incumbent, helpers) < NEAR * target {
-        helpers.refer_to(boxed, order, incumbent);
-        helpers.steps.polyak(order, target, STEPS);
-        helpers.steps.snap(order, target);
+    let target = search.target();
+    if search.is_near(NEAR) {
+        search.refer_to_plan();
+        search.helpers.steps.polyak(search.order, target, STEPS);
+        search.helpers.steps.snap(search.order, target);
     } else {
-        helpers.steps.set_factor(FACTOR);
-        helpers.steps.volume(order, target, STEPS, MISSES);
+        search.helpers.steps.set_factor(FACTOR);
+        search
+            .helpers
+            .steps
+            .volume(search.order, target, STEPS, MISSES);
     }
 }
 
 // Whether it is worth while to go on before the box is split.
-fn may_close(incumbent: &Incumbent<'_>, helpers: &Helpers) -> bool {
-    left_of(incumbent, helpers) < NEAR * target_of(incumbent) || is_decided(helpers.steps.shares())
+fn may_close(search: &Search<'_>) -> bool {
+    search.is_near(NEAR) || is_decided(search.helpers.steps.shares())
 }
 
 fn is_decided(shares: &[f64]) -> bool {
@@ -124,27 +92,16 @@ fn is_decided(shares: &[f64]) -> bool {
 }
 
 // Rounds of steps to exactly the target, while what is left is halved.
-fn closing_rounds(
-    alloc: Global,
-    boxed: &PreparedBox<'_>,
-    order: &LaneOrder,
-    leaf: &mut LeafMaker,
-    incumbent: &Incumbent<'_>,
-    helpers: &mut Helpers,
-) -> Result<(), NoMemory>
-    requires order { IsOrderOf order.now boxed.now.instance }
-    requires no_caps { HasNoCaps boxed.now.instance }
-    requires sizes { helpers.old ≡ sizes_of boxed.now.instance }
-    requires making { (old_path : Decisions) × (old : Prices) × IsMaking boxed.now.instance old_path old boxed.now.path leaf.old }
-    ensures leaf { OnOk result (StaysMaking boxed.now.instance boxed.now.path leaf.old leaf.new) }
-    ensures sizes { OnOk result (helpers.new ≡ helpers.old) }
+fn closing_rounds(search: &mut Search<'_>, boxed: &PreparedBox<'_>) -> Result<(), NoMemory>
+    requires { IsAt boxed.now search.old }
+    ensures { OnOk result (GoesOn boxed.now search.old search.new) }
 {
-    helpers.refer_to(boxed, order, incumbent);
+    search.refer_to_plan();
     for _round in 0..CLOSING_ROUNDS {
-        let before = left_of(incumbent, helpers);
-        close_in(alloc, boxed, order, incumbent, helpers)?;
-        point(alloc, boxed, order, leaf, incumbent, helpers)?;
-        if leaf.closes(boxed, incumbent.cost()) || left_of(incumbent, helpers) > 0.5 * before {
+        let before = search.left();
+        close_in(search)?;
+        point(search, boxed)?;
+        if search.closes() || search.left() > 0.5 * before {
             return Ok(());
         }
     }
@@ -152,20 +109,18 @@ fn closing_rounds(
 }
 
 // Steps to exactly the target, sweeps and snaps.
-fn close_in(
-    alloc: Global,
-    boxed: &PreparedBox<'_>,
-    order: &LaneOrder,
-    incumbent: &Incumbent<'_>,
-    helpers: &mut Helpers,
-) -> Result<(), NoMemory>
-    requires order { IsOrderOf order.now boxed.now.instance }
-    requires sizes { helpers.old ≡ sizes_of boxed.now.instance }
-    ensures { OnOk result (helpers.new ≡ helpers.old) }
+fn close_in(search: &mut Search<'_>) -> Result<(), NoMemory>
+    ensures { OnOk result (search.new ≡ search.old) }
 {
-    let target = target_of(incumbent);
-    helpers.steps.polyak(order, target, CLOSING_STEPS);
-    helpers.steps.project(alloc, order, target, SWEEPS)?;
-    helpers.steps.snap(order, target);
+    let target = search.target();
+    search
+        .helpers
+        .steps
+        .polyak(search.order, target, CLOSING_STEPS);
+    search
+        .helpers
+        .steps
+        .project(search.alloc, search.order, target, SWEEPS)?;
+    search.helpers.steps.snap(search.order, target);
     Ok(())
 }

@@ -1,9 +1,7 @@
 ghost use Rattle.std.specs.Prelude.{◌≡◌, IsTrue, IfOk, length};
-ghost use Rattle.location_terms.specs.Box.{Path as Decisions};
-ghost use Rattle.location_terms.specs.Bound.{Duals as Prices};
 ghost use Rattle.lane_order.specs.Order.{IsOrderOf};
 ghost use Rattle.plan_search.specs.InBox.{HasNoCaps};
-ghost use Rattle.tree_search.specs.Making.{IsMaking};
+ghost use Rattle.tree_search.specs.Making.{Makes};
 
 use crate::leaf_maker::{LeafMaker, first_unserved, unserved_ray};
 use dual_value::{Duals, Path, PreparedBox, bound};
@@ -19,24 +17,9 @@ pub(crate) fn ring(alloc: Global) -> Result<Instance, NoMemory> {
     let second = LaneRow::from_slice(alloc, &[None, Some(0), Some(0)])?;
     let third = LaneRow::from_slice(alloc, &[Some(0), None, Some(0)])?;
     let sites = vec![in alloc;
-        SiteRow {
-            id: SiteId::new(1),
-            fixed: 2_000_000,
-            cap: None,
-            lanes: first
-        },
-        SiteRow {
-            id: SiteId::new(2),
-            fixed: 2_000_000,
-            cap: None,
-            lanes: second
-        },
-        SiteRow {
-            id: SiteId::new(3),
-            fixed: 2_000_000,
-            cap: None,
-            lanes: third
-        },
+        site(1, 2_000_000, first),
+        site(2, 2_000_000, second),
+        site(3, 2_000_000, third),
     ]?;
     let custs = vec![in alloc; customer(1), customer(2), customer(3)]?;
     Instance::from_parts(alloc, 0, 3, 4, 4, custs, sites)
@@ -46,22 +29,20 @@ pub(crate) fn ring(alloc: Global) -> Result<Instance, NoMemory> {
 fn shared(alloc: Global) -> Result<Instance, NoMemory> {
     let first = LaneRow::from_slice(alloc, &[Some(0), Some(0), None])?;
     let second = LaneRow::from_slice(alloc, &[Some(0), None, Some(0)])?;
-    let sites = vec![in alloc;
-        SiteRow {
-            id: SiteId::new(1),
-            fixed: 2_000_000,
-            cap: None,
-            lanes: first
-        },
-        SiteRow {
-            id: SiteId::new(2),
-            fixed: 2_000_000,
-            cap: None,
-            lanes: second
-        },
-    ]?;
+    let sites = vec![in alloc; site(1, 2_000_000, first), site(2, 2_000_000, second)]?;
     let custs = vec![in alloc; customer(1), customer(2), customer(3)]?;
     Instance::from_parts(alloc, 0, 2, 3, 4, custs, sites)
+}
+
+pub(crate) fn site(id: u32, fixed: u64, lanes: LaneRow) -> SiteRow
+    ensures { result ≡ record { id = id; fixed = fixed; cap = None; lanes = lanes } }
+{
+    SiteRow {
+        id: SiteId::new(id),
+        fixed,
+        cap: None,
+        lanes,
+    }
 }
 
 pub(crate) fn customer(id: u32) -> CustRow
@@ -96,11 +77,12 @@ pub(crate) fn has_no_caps(inst: &Instance) -> bool
 fn maker(alloc: Global, boxed: &PreparedBox<'_>, order: &LaneOrder) -> Result<LeafMaker, NoMemory>
     requires order { IsOrderOf order.now boxed.now.instance }
     requires no_caps { HasNoCaps boxed.now.instance }
-    ensures { IfOk result (λ m. (old_path : Decisions) × (old : Prices) × IsMaking boxed.now.instance old_path old boxed.now.path m) }
+    ensures { IfOk result (λ m. Makes boxed.now.instance boxed.now.path m) }
 {
     let zeros = Duals::zeros(alloc, boxed.instance(), 1)?;
-    let made = LeafMaker::of(alloc, boxed, order, &zeros, &zeros)?;
-    Ok(made)
+    let mut maker = LeafMaker::of(alloc, boxed.instance())?;
+    maker.enter(alloc, boxed, order, &zeros, &zeros)?;
+    Ok(maker)
 }
 
 // Whether the plain bound is 2, a point that comes to no more is refused, and one of 3 is taken, above
@@ -114,37 +96,36 @@ fn points(
     requires order { IsOrderOf order.now boxed.now.instance }
     requires no_caps { HasNoCaps boxed.now.instance }
     requires customers { length boxed.now.instance.customers ≡ 3 }
-    requires making { (old_path : Decisions) × (old : Prices) × IsMaking boxed.now.instance old_path old boxed.now.path maker.old }
+    requires making { Makes boxed.now.instance boxed.now.path maker.old }
 {
-    let plain = maker.bound(boxed) == 2_000_000;
+    let plain = maker.bound() == 2_000_000;
     let lower = maker.point(boxed, order, &[2_000_000, 0, 0]);
     let higher = maker.point(boxed, order, &[1_000_000, 1_000_000, 1_000_000]);
     let fine = [1_000_000_000_000, 1_000_000_000_000, 1_000_000_000_000];
     let finer = maker.point_finely(alloc, boxed, order, &fine)?;
-    let closes = maker.closes(boxed, Some(3_000_000));
+    let closes = maker.closes(Some(3_000_000));
     Ok(plain && !lower && higher && !finer && closes)
 }
 
 // Whether the plain ascent, which gains, is left for a better one with just these slacks.
 fn settles(boxed: &PreparedBox<'_>, order: &LaneOrder, maker: &mut LeafMaker) -> bool
     requires order { IsOrderOf order.now boxed.now.instance }
-    requires making { (old_path : Decisions) × (old : Prices) × IsMaking boxed.now.instance old_path old boxed.now.path maker.old }
+    requires making { Makes boxed.now.instance boxed.now.path maker.old }
 {
-    let plain = maker.bound(boxed);
+    let plain = maker.bound();
     maker.settle(boxed, order);
-    maker.adjust(boxed, order, 1);
-    let best = maker.bound(boxed);
+    let best = maker.bound();
     plain == 2_000_000 && best == 4_000_000 && maker.slacks() == [0, 0].as_slice()
 }
 
 // Whether both sites are tight, at the best duals and in the plain ascent.
 fn is_tight(alloc: Global, boxed: &PreparedBox<'_>, maker: &LeafMaker) -> Result<bool, NoMemory>
-    requires making { (old_path : Decisions) × (old : Prices) × IsMaking boxed.now.instance old_path old boxed.now.path maker.now }
+    requires making { Makes boxed.now.instance boxed.now.path maker.now }
 {
     let both = [SiteId::new(1), SiteId::new(2)];
     Ok(
         maker.tight_sites(alloc, boxed)?.as_slice() == both.as_slice()
-            && maker.plain_tight_sites(alloc, boxed)?.as_slice() == both.as_slice(),
+            && maker.plain_tight_sites() == both.as_slice(),
     )
 }
 

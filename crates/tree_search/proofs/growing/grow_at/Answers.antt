@@ -15,6 +15,6 @@ returns-clause-grown c =
       now = c.in_ok-replace_leaf.ensures.ok;
       count = omega (arith, some_node c.in_ok-part.part.root, c.nodes-made.ensures.count);
       grown =
-          subst (λ o. IfSome o (λ l. IsGrownPart c.args.incumbent.now.instance l.0 l.1 c.args.incumbent.now.plan c.grow_leaf.new.incumbent.plan (c.args.budget + 1) c.in_ok-part.part))
+          subst (λ o. IfSome o (λ l. IsGrownPart c.args.search.now.best.instance l.0 l.1 c.args.search.now.best.plan c.grow_leaf.new.search.best.plan (c.args.budget + 1) c.in_ok-part.part))
           (sym (leaf_there (leaves_of c.args.tree.now) c.args.k c.in_ok-path.path c.leaf_duals.result.now c.in_ok-path.ensures c.leaf_duals.ensures)) c.in_ok-part.ensures.grown;
     }

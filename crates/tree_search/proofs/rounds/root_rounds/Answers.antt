@@ -1,11 +1,11 @@
-use Rattle.tree_search.proofs.Strong.{makes_still, stays_on}
+use Rattle.std.proofs.Common.{◌∙◌}
+use Rattle.tree_search.proofs.Going.{at_same, goes_same, goes_again}
 use Rattle.tree_search.proofs.rounds.root_rounds.Goals as goal
 
-pub seek_tight-requires-clause-making : goal.seek_tight-requires-clause-making
-seek_tight-requires-clause-making c = makes_still c.args.boxed.now.instance c.args.boxed.now.path _ _ c.requires.making c.adjust.ensures
+pub rounds-requires : goal.rounds-requires
+rounds-requires c = at_same c.args.boxed.now c.seek.new.search _ c.in_ok-seek.ensures.at (c.restart_steps.ensures ∙ c.start_steps.ensures)
 
-pub rounds-requires-clause-making : goal.rounds-requires-clause-making
-rounds-requires-clause-making c = makes_still c.args.boxed.now.instance c.args.boxed.now.path _ _ c.requires.making c.adjust.ensures
-
-pub returns-clause-leaf : goal.returns-clause-leaf
-returns-clause-leaf c = stays_on c.args.boxed.now.instance c.args.boxed.now.path c.rounds.result _ _ _ c.requires.making c.adjust.ensures c.rounds.ensures.leaf
+pub returns : goal.returns
+returns c =
+    let b = c.args.boxed.now in
+    goes_again b _ _ _ c.in_ok-seek.ensures (goes_again b _ _ _ (goes_same b c.seek.new.search _ c.in_ok-seek.ensures.at (c.restart_steps.ensures ∙ c.start_steps.ensures)) c.in_ok-rounds.ensures)

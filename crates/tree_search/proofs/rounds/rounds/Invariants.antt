@@ -1,11 +1,5 @@
-use Rattle.std.proofs.Common.{◌≡◌}
-use Rattle.tree_search.specs.Making.{StaysMaking}
-use Rattle.tree_search.specs.Best.{Improves}
+use Rattle.tree_search.specs.Searching.{GoesOn}
 use Rattle.tree_search.proofs.rounds.rounds.Given as goal
 
 abbrev pub invariant-loop-round : goal.invariant-loop-round
-invariant-loop-round l = record {
-  leaf : StaysMaking l.boxed.instance l.boxed.path l.initial.leaf l.leaf;
-  plan : Improves l.initial.incumbent l.incumbent;
-  sizes : l.helpers ≡ l.initial.helpers;
-}
+invariant-loop-round l = GoesOn l.boxed l.initial.search l.search

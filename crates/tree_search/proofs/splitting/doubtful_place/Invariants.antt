@@ -1,4 +1,4 @@
-use Rattle.std.proofs.Common.{◌≡◌, ◌<◌, length}
+use Rattle.std.proofs.Common.{◌<◌, length}
 use Rattle.std.specs.Prelude.{IfSome, IsTrue}
 use Rattle.location_terms.specs.Instance.{site_at}
 use Rattle.location_terms.specs.Box.{is_free}

@@ -1,15 +1,14 @@
-use Rattle.std.proofs.Common.{rules, ◌∙◌}
-use Rattle.tree_search.proofs.Strong.{makes_again, stays_again}
+use Rattle.tree_search.proofs.Going.{goes_same, goes_again, at_same}
 use Rattle.tree_search.proofs.strengthen.closing_rounds.Goals as goal
 
-pub closes-requires : goal.closes-requires
-closes-requires c = record { making = makes_again c.args.boxed.now.instance c.args.boxed.now.path _ _ _ c.requires.making c.loop-round.invariant.leaf c.in_ok-point.ensures.leaf }
+pub loop-round-init : goal.loop-round-init
+loop-round-init c = goes_same c.args.boxed.now _ _ c.requires c.refer_to_plan.ensures
 
-pub returns-then-closes-clause-leaf : goal.returns-then-closes-clause-leaf
-returns-then-closes-clause-leaf c = stays_again c.args.boxed.now.instance c.args.boxed.now.path _ _ _ c.requires.making c.loop-round.invariant.leaf c.in_ok-point.ensures.leaf
+pub point-requires : goal.point-requires
+point-requires c = at_same c.args.boxed.now _ _ c.loop-round.invariant.at c.in_ok-close_in.ensures
+
+pub returns-then-closes : goal.returns-then-closes
+returns-then-closes c = goes_again c.args.boxed.now _ _ _ c.loop-round.invariant (goes_again c.args.boxed.now _ _ _ (goes_same c.args.boxed.now _ _ c.loop-round.invariant.at c.in_ok-close_in.ensures) c.in_ok-point.ensures)
 
 pub loop-round-preserved : goal.loop-round-preserved
-loop-round-preserved c = record {
-  leaf = stays_again c.args.boxed.now.instance c.args.boxed.now.path _ _ _ c.requires.making c.loop-round.invariant.leaf c.in_ok-point.ensures.leaf;
-  sizes = search rules;
-}
+loop-round-preserved c = goes_again c.args.boxed.now _ _ _ c.loop-round.invariant (goes_again c.args.boxed.now _ _ _ (goes_same c.args.boxed.now _ _ c.loop-round.invariant.at c.in_ok-close_in.ensures) c.in_ok-point.ensures)

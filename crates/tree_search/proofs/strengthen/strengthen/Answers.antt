@@ -1,11 +1,14 @@
-use Rattle.tree_search.proofs.Strong.{makes_still, stays_on}
+use Rattle.tree_search.proofs.Going.{at_same, goes_same, goes_again}
 use Rattle.tree_search.proofs.strengthen.strengthen.Goals as goal
 
-pub closes-requires : goal.closes-requires
-closes-requires c = record { making = makes_still c.args.boxed.now.instance c.args.boxed.now.path _ _ c.requires.making c.in_ok-point.ensures.leaf }
+pub root_rounds-requires : goal.root_rounds-requires
+root_rounds-requires c = at_same c.args.boxed.now c.args.search.now _ c.requires c.enter_steps.ensures
 
-pub closing_rounds-requires-clause-making : goal.closing_rounds-requires-clause-making
-closing_rounds-requires-clause-making c = makes_still c.args.boxed.now.instance c.args.boxed.now.path _ _ c.requires.making c.in_ok-point.ensures.leaf
+pub returns-then-steps-eq0 : goal.returns-then-steps-eq0
+returns-then-steps-eq0 c = goes_again c.args.boxed.now _ _ _ (goes_same c.args.boxed.now c.args.search.now _ c.requires c.enter_steps.ensures) c.in_ok-root_rounds.ensures
 
-pub returns-clause-leaf : goal.returns-clause-leaf
-returns-clause-leaf c = stays_on c.args.boxed.now.instance c.args.boxed.now.path c.closing_rounds.result _ _ _ c.requires.making c.in_ok-point.ensures.leaf c.closing_rounds.ensures.leaf
+pub node_steps-requires : goal.node_steps-requires
+node_steps-requires c = at_same c.args.boxed.now c.args.search.now _ c.requires c.enter_steps.ensures
+
+pub returns : goal.returns
+returns c = goes_again c.args.boxed.now _ _ _ (goes_same c.args.boxed.now c.args.search.now _ c.requires c.enter_steps.ensures) c.in_ok-node_steps.ensures

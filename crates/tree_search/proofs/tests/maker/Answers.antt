@@ -3,4 +3,4 @@ use Rattle.std.proofs.lemmas.Int.{ints}
 use Rattle.tree_search.proofs.tests.maker.Goals as goal
 
 pub returns : goal.returns
-returns c = (c.args.boxed.now.path, c.in_ok-zeros.zeros, c.in_ok-made.ensures c.args.boxed.now.path (λ d. omega (arith, ints)))
+returns c = (c.args.boxed.now.path, c.in_ok-zeros.zeros, c.in_ok-enter.ensures.making c.args.boxed.now.path (λ d. omega (arith, ints)))

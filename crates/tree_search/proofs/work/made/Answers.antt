@@ -1,32 +1,52 @@
-use Rattle.std.proofs.Common.{◌∙◌, sym, subst}
+use Rattle.std.proofs.Common.{◌≡◌, ◌∙◌, sym, ap, subst}
 use Rattle.location_terms.specs.Instance.{IsValid}
 use Rattle.location_terms.specs.Bound.{Duals}
-use Rattle.tree_search.specs.Working.{IsWorked}
-use Rattle.tree_search.proofs.Offered.{improved_in}
+use Rattle.plan_search.specs.InBox.{IsNoWorse}
+use Rattle.tree_search.specs.Working.{IsVerdict, IsWorked}
+use Rattle.tree_search.specs.Best.{Best, Improves}
+use Rattle.tree_search.specs.Making.{Making, IsMaking, StaysMaking}
+use Rattle.tree_search.specs.Searching.{Searching, IsWorkable}
+use Rattle.tree_search.proofs.Offered.{improved_in, improves_again}
+use Rattle.tree_search.proofs.Going.{order_in, makes_in, goes_with}
 use Rattle.tree_search.proofs.Verdicts.{worked_from}
 use Rattle.tree_search.proofs.work.made.Goals as goal
 
-pub settle-requires-clause-making : goal.settle-requires-clause-making
-settle-requires-clause-making c =
-    let making = c.requires.making in
-    (making.0, making.1, c.in_ok-press.ensures.leaf.making making.0 making.1 making.2)
+pub settle-requires-clause-order : goal.settle-requires-clause-order
+settle-requires-clause-order c = order_in c.args.boxed.now.instance c.press.new.search c.in_ok-press.ensures.on.at.instance c.search.inside.order.now c.search.inside.incumbent c.search.inside.leaf c.search.inside.helpers c.search.invariant c.search.view_is
 
-pub verdict-requires-clause-making : goal.verdict-requires-clause-making
-verdict-requires-clause-making c =
-    let making = c.requires.making in
-    (making.0, making.1, c.settle.ensures.stays.making making.0 making.1 (c.in_ok-press.ensures.leaf.making making.0 making.1 making.2))
+pub settle-requires-clause-making : goal.settle-requires-clause-making
+settle-requires-clause-making c = makes_in c.args.boxed.now c.press.new.search c.in_ok-press.ensures.on.at c.search.inside.incumbent c.search.inside.leaf c.search.view_is
+
+pub verdict-requires : goal.verdict-requires
+verdict-requires c = (goes_with c.args.boxed.now c.press.new.search c.in_ok-press.ensures.on.at c.search.inside.incumbent c.search.inside.leaf c.search.view_is c.settle.new.self c.settle.ensures.stays).at
+
+pub returns-clause-plan : goal.returns-clause-plan
+returns-clause-plan c =
+    let incumbent : c.search.inside.incumbent ≡ c.press.new.search.best = ap (λ (s : Searching). s.best) c.search.view_is in
+    let second : Improves c.press.new.search.best c.verdict.new.search.best = subst (λ (x : Best). Improves x c.verdict.new.search.best) incumbent c.in_ok-split.ensures.plan in
+    improves_again c.args.search.now.best c.press.new.search.best c.verdict.new.search.best c.in_ok-press.ensures.on.plan second
 
 pub returns-clause-worked : goal.returns-clause-worked
 returns-clause-worked c = λ old under.
     let I = c.args.boxed.now.instance in
     let path = c.args.boxed.now.path in
-    let making = c.requires.making in
-    let pressed = c.press.new.incumbent in
-    let after = c.verdict.new.incumbent in
-    let later = improved_in I pressed after (c.in_ok-press.ensures.plan.same ∙ c.requires.instance) c.in_ok-split.ensures.plan in
+    let at = c.requires.at in
+    let making = at.making in
+    let pressed = c.press.new.search in
+    let settled = c.settle.new.self in
+    let after = c.verdict.new.search in
+    let on = c.in_ok-press.ensures.on in
+    let valid : IsValid I = subst IsValid (c.instance.ensures.same ∙ at.instance) c.sites-sites.ensures.valid in
+    let workable : IsWorkable I = subst IsWorkable at.instance c.instance.ensures.workable in
+    let leaf : c.search.inside.leaf ≡ pressed.leaf = ap (λ (s : Searching). s.leaf) c.search.view_is in
+    let incumbent : c.search.inside.incumbent ≡ pressed.best = ap (λ (s : Searching). s.best) c.search.view_is in
+    let second : StaysMaking I path pressed.leaf settled = subst (λ (m : Making). StaysMaking I path m settled) leaf c.settle.ensures.stays in
+    let later : IsNoWorse I after.best.plan pressed.best.plan = improved_in I pressed.best after.best on.at.instance (subst (λ (x : Best). Improves x after.best) incumbent c.in_ok-split.ensures.plan) in
+    let verdict : IsVerdict I after.best.plan c.args.may_split path settled.best.duals c.in_ok-split.split = subst (λ (m : Making). IsVerdict I after.best.plan c.args.may_split path m.best.duals c.in_ok-split.split) c.in_ok-split.ensures.leaf c.in_ok-split.ensures.verdict in
     let worked =
-    worked_from I path (subst IsValid c.instance.ensures c.sites-sites.ensures.valid) c.requires.no_caps c.requires.free_count c.requires.path c.requires.served
-    c.args.leaf.now c.press.new.leaf c.settle.new.self making.0 making.1 making.2 c.in_ok-press.ensures.leaf c.settle.ensures.stays
-    pressed.plan after.plan later c.in_ok-press.ensures.pressed c.args.may_split c.in_ok-split.split old c.in_ok-split.ensures.verdict
-    (λ old_path lowers. c.settle.ensures.made old_path old c.requires.served (c.in_ok-press.ensures.leaf.making old_path old (under old_path lowers))) in
-    subst (λ (d : Duals). IsWorked I after.plan c.args.may_split old path d c.in_ok-split.split) (sym (c.in_ok-duals.ensures ∙ c.duals.ensures)) worked
+    worked_from I path valid workable.no_caps workable.free_count at.path c.requires.served
+    c.args.search.now.leaf pressed.leaf settled making.0 making.1 making.2 on.leaf second
+    pressed.best.plan after.best.plan later c.in_ok-press.ensures.pressed c.args.may_split c.in_ok-split.split old verdict
+    (λ old_path lowers. c.settle.ensures.made old_path old c.requires.served (subst (λ (m : Making). IsMaking I old_path old path m) (sym leaf) (on.leaf.making old_path old (under old_path lowers)))) in
+    let duals : c.in_ok-duals.duals ≡ settled.best.duals = c.in_ok-duals.ensures ∙ c.duals.ensures ∙ ap (λ (s : Searching). s.leaf.best.duals) c.search-2.view_is ∙ ap (λ (m : Making). m.best.duals) c.in_ok-split.ensures.leaf in
+    subst (λ (d : Duals). IsWorked I after.best.plan c.args.may_split old path d c.in_ok-split.split) (sym duals) worked
