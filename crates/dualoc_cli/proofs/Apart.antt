@@ -1,11 +1,11 @@
 -- The files of a result have different names.
 use Rattle.std.proofs.Common.{◌≡◌, ℕ, ◌==◌, Bool, true, false, List, [], ◌∷◌, length, Option, None, Some, refl, ap, subst}
-use Rattle.std.specs.Prelude.{◌&&◌, ◌||◌, not, codes, bytes_eq, if◌then◌else◌}
+use Rattle.std.specs.Prelude.{◌&&◌, ◌||◌, not, bytes_eq, if◌then◌else◌}
 use Rattle.std.specs.List.{list_any}
 use Rattle.std.specs.Option.{option_map, option_and_then}
 use Rattle.dualoc_cli.specs.declared.words.FileForm.{FileForm}
-use Rattle.dualoc_cli.specs.declared.words.FileForm.TheVariants.{Ufl}
-use Rattle.dualoc_cli.specs.Command.{Command, OnFile, InstanceFile, ResultFiles, into_files, Job, SolveShort, SolveLong, ShowDuals, Check, are_names, plain_command, form_of, budget_of, search_of, solve_of, duals_of, check_of, command_of}
+use Rattle.dualoc_cli.specs.declared.words.FileForm.TheVariants.{Cap, Ufl}
+use Rattle.dualoc_cli.specs.Command.{Command, OnFile, InstanceFile, ResultFiles, into_files, Job, SolveShort, SolveLong, ShowDuals, Check, are_names, plain_command, form_of, searched_form, budget_of, capacity_of, search_of, solve_of, duals_of, check_of, command_of}
 
 -- the first of some names isn't among the others, which are names too
 first_name : (x y z : Bool) → (not x && not y && z) ≡ true → (y ≡ false) × (z ≡ true)
@@ -40,7 +40,7 @@ module _ (file : InstanceFile) (into : ResultFiles) (given : Option ℕ) where
 
   search_apart : (form name plan certificate : List ℕ) (budget : Option ℕ) → Asks (search_of form name (into_files plan certificate) budget) → IsApart
   search_apart form name plan certificate budget e =
-      let by = search_by (are_names (name ∷ plan ∷ certificate ∷ [])) (form_of form) name (into_files plan certificate) budget e in
+      let by = search_by (are_names (name ∷ plan ∷ certificate ∷ [])) (searched_form form) name (into_files plan certificate) budget e in
       let plan_is : plan ≡ into.plan = ap (λ i. i.plan) by.1 in
       let certificate_is : certificate ≡ into.certificate = ap (λ i. i.certificate) by.1 in
       apart_names name (subst (λ c. are_names (name ∷ into.plan ∷ c ∷ []) ≡ true) certificate_is (subst (λ p. are_names (name ∷ p ∷ certificate ∷ []) ≡ true) plan_is by.0))
@@ -68,18 +68,27 @@ module _ (file : InstanceFile) (into : ResultFiles) (given : Option ℕ) where
   other_by true job None name other e = absurd cc
   other_by true job (Some form) name other e = absurd (other cc)
 
+  with_by : (named is_cap : Bool) (capacity : Option ℕ) (job : Job) (name : List ℕ) → (job ≡ SolveLong into given → ⊥)
+      → Asks (if named then (if is_cap then option_map (λ amount. OnFile (record { form = Cap; name = name; given = Some amount }) job) capacity else None) else None) → IsApart
+  with_by false is_cap capacity job name other e = absurd cc
+  with_by true false capacity job name other e = absurd cc
+  with_by true true None job name other e = absurd cc
+  with_by true true (Some amount) job name other e = absurd (other cc)
+
   duals_apart : (words : List (List ℕ)) → Asks (duals_of words) → IsApart
   duals_apart [] e = absurd cc
   duals_apart (a ∷ []) e = absurd cc
   duals_apart (form ∷ name ∷ []) e = other_by _ ShowDuals (form_of form) name (λ same. cc) e
-  duals_apart (a ∷ b ∷ c ∷ rest) e = absurd cc
+  duals_apart (form ∷ name ∷ option ∷ []) e = with_by _ _ (capacity_of option) ShowDuals name (λ same. cc) e
+  duals_apart (a ∷ b ∷ c ∷ d ∷ rest) e = absurd cc
 
   check_apart : (words : List (List ℕ)) → Asks (check_of words) → IsApart
   check_apart [] e = absurd cc
   check_apart (a ∷ []) e = absurd cc
   check_apart (a ∷ b ∷ []) e = absurd cc
   check_apart (form ∷ name ∷ certificate ∷ []) e = other_by _ (Check certificate) (form_of form) name (λ same. cc) e
-  check_apart (a ∷ b ∷ c ∷ d ∷ rest) e = absurd cc
+  check_apart (form ∷ name ∷ certificate ∷ option ∷ []) e = with_by _ _ (capacity_of option) (Check certificate) name (λ same. cc) e
+  check_apart (a ∷ b ∷ c ∷ d ∷ f ∷ rest) e = absurd cc
 
   by_verb : (is_solve is_duals is_check : Bool) (words : List (List ℕ))
       → Asks (if is_solve then solve_of words else (if is_duals then duals_of words else (if is_check then check_of words else None))) → IsApart

@@ -25,7 +25,11 @@ use Rattle.dual_ascent.proofs.Small.{value_small, slack_small, bound_small}
 use Rattle.report.specs.DualsText.{ArePrintable}
 use Rattle.location_terms.specs.Plain.{IsPlain}
 use Rattle.plan_search.specs.InBox.{HasNoCaps}
-use Rattle.ufllib_read.proofs.Meant.{valid-meant}
+use Rattle.instance_store.specs.Small.{IsSmall}
+use Rattle.ufllib_read.proofs.Meant as ufl
+use Rattle.orlib_read.specs.declared.capacities.Capacities.TheVariants.{Kept, Ignored}
+use Rattle.orlib_read.proofs.Meant as warehouses
+use Rattle.pmed_paths.proofs.Meant as networks
 use Rattle.certificate_lines.specs.Text.{certificate_text}
 use Rattle.certificate_lines.specs.Follow.{HasSmallCosts}
 use Rattle.certificate_lines.specs.declared.kind.CertKind.{CertKind}
@@ -36,13 +40,14 @@ use Rattle.certificate_check.specs.declared.verdict.Verdict.TheVariants.{Yes, No
 use Rattle.certificate_check.specs.Verdict.{Answer, IsAnswer}
 use Rattle.certificate_check.specs.Step.{IsUnread}
 use Rattle.dualoc_cli.specs.declared.words.FileForm.{FileForm}
-use Rattle.dualoc_cli.specs.declared.words.FileForm.TheVariants.{Ufl}
-use Rattle.dualoc_cli.specs.declared.limits.TheConstants.{MAX_INSTANCE_BYTES}
+use Rattle.dualoc_cli.specs.declared.words.FileForm.TheVariants.{Cap, Uncap, Ufl, Pmed}
+use Rattle.fixed_cost.specs.declared.limits.TheConstants.{MAX_INSTANCE_BYTES}
 use Rattle.dualoc_cli.specs.declared.reply.Reply.{Reply}
 use Rattle.dualoc_cli.specs.declared.reply.Reply.TheVariants.{Optimum, Ascent, CertificateUnread, LongCertificate, Misspelt, Judged}
 use Rattle.dualoc_cli.specs.Command.{InstanceFile, Job, OnFile, SolveShort, SolveLong, ShowDuals, Check, command_of, meaning_of, meaning_in}
 use Rattle.dualoc_cli.specs.Due.{Run, IsTooLong, HasTask, FailsToRead, IsRaised, IsAnswered, IsConfirmed, IsCause, ChangesNoFile, Keeps as KeepsFiles}
 use Rattle.dualoc_cli.specs.Step.{Covers, IsPrintable}
+use Rattle.dualoc_cli.proofs.Commands.{suited}
 
 -- what a read of the whole file told, as what the file may hold
 read_bytes : (found : Option (List ℕ)) (bytes : List ℕ) → IsSomeAnd found (λ file. bytes ≡ file) → found ≡ Some bytes
@@ -124,11 +129,14 @@ task_of r file job told bytes I words_are same has within means =
     }
 
 -- the instance of a task is valid
-valid_in : (form : FileForm) (given : Option ℕ) (bytes : List ℕ) (I : Instance) → meaning_of form given bytes ≡ Ok I → IsValid I
-valid_in Ufl given bytes I means = valid-meant bytes I means
+valid_in : (form : FileForm) (given : Option ℕ) (bytes : List ℕ) (I : Instance) → IsSmall given → meaning_of form given bytes ≡ Ok I → IsValid I
+valid_in Cap given bytes I small means = warehouses.valid-meant (Kept given) bytes I small means
+valid_in Uncap given bytes I small means = warehouses.valid-meant Ignored bytes I tt means
+valid_in Ufl given bytes I small means = ufl.valid-meant bytes I means
+valid_in Pmed given bytes I small means = networks.valid-meant bytes I means
 
 pub task_valid : (r : Run) (job : Job) (I : Instance) → HasTask r job I → IsValid I
-task_valid r job I task = valid_in task.file.form task.file.given task.bytes I task.means
+task_valid r job I task = valid_in task.file.form task.file.given task.bytes I (suited r.words task.file job task.asked.words_are).small task.means
 
 -- a plain instance has no capacities
 pub plain_caps : (I : Instance) → IsPlain I → HasNoCaps I

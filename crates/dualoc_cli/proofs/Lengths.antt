@@ -218,7 +218,7 @@ length-tree I t valid tree stands =
     let named = All-same (λ n. n ≤ MAX_ID) t.customers (customer_ids I) stands.customers (ids_small (customer_ids I) I.next_customer valid.customers_named) in
     let m : length t.sites ≡ length I.sites = ap length stands.sites ∙ length-map I.sites (λ s. s.id) in
     let n : length t.customers ≡ length I.customers = ap length stands.customers ∙ length-map I.customers (λ c. c.id) in
-    length-node t.sites t.customers (length t.sites) (length t.customers) (53 * (length I.sites + length I.customers)) known named (omega (arith, m, n, valid.some_site, valid.some_customer)) [] t.root tree.splits tree.leaves
+    length-node t.sites t.customers (length t.sites) (length t.customers) (53 * (length I.sites + length I.customers)) known named (omega (arith, m, n, valid.sizes.some_site, valid.sizes.some_customer)) [] t.root tree.splits tree.leaves
 
 -- the first two lines
 length-header : (free : Bool) → length (spaced (codes "dualoc-certificate" ∷ (if free then codes "1" else codes "2") ∷ [])) ≡ 20
@@ -227,8 +227,8 @@ length-header false = refl
 
 length-sizes : (I : Instance) → IsValid I → length (sizes_line I) ≤ 37
 length-sizes I valid =
-    let sites = id_short (length I.sites) (omega (arith, valid.few_sites)) in
-    let customers = id_short (length I.customers) (omega (arith, valid.few_customers)) in
+    let sites = id_short (length I.sites) (omega (arith, valid.sizes.few_sites)) in
+    let customers = id_short (length I.customers) (omega (arith, valid.sizes.few_customers)) in
     omega (arith, sites, customers, length-spaced (codes "sites") (number_text (pos (length I.sites)) ∷ codes "customers" ∷ number_text (pos (length I.customers)) ∷ []))
 
 -- the parts of a text come to less than the limit
@@ -260,4 +260,4 @@ short_text I cert valid accepted costs few =
       length-lines nodes ending,
     ) in
     sum_within (nodes_of cert.tree) (length I.sites) (length I.customers) (length (spaced (header_words I))) (length (sizes_line I)) (length (text_of_lines (status_lines I))) (length (claim_line cert.claim)) (length (text_of_lines (plan_lines cert.plan))) (length (text_of_lines nodes)) (length (certificate_text I cert))
-    valid.few_sites valid.few_customers few (length-header (is_all_free I)) (length-sizes I valid) (length-statuses I valid) (length-claim cert.claim costs) (length-plan I cert.claim cert.plan cert.tree valid accepted.shows) (length-tree I cert.tree valid accepted.tree accepted.stands) whole
+    valid.sizes.few_sites valid.sizes.few_customers few (length-header (is_all_free I)) (length-sizes I valid) (length-statuses I valid) (length-claim cert.claim costs) (length-plan I cert.claim cert.plan cert.tree valid accepted.shows) (length-tree I cert.tree valid accepted.tree accepted.stands) whole

@@ -27,7 +27,7 @@ use Rattle.plan_search.specs.InBox.{HasNoCaps}
 use Rattle.dualoc_cli.proofs.Causes.{task_valid}
 use Rattle.dualoc_cli.proofs.Searching.{tree_small}
 use Rattle.certificate_lines.specs.Text.{certificate_text}
-use Rattle.dualoc_cli.specs.declared.limits.TheConstants.{MAX_INSTANCE_BYTES}
+use Rattle.fixed_cost.specs.declared.limits.TheConstants.{MAX_INSTANCE_BYTES}
 use Rattle.dualoc_cli.specs.declared.status.Status.{Status}
 use Rattle.dualoc_cli.specs.declared.status.Status.TheVariants.{Done, Infeasible, Bracket, CheckNo, Usage, BadInput, ReadFault, WriteFault, TooLarge, NoMemory}
 use Rattle.dualoc_cli.specs.declared.reply.Reply.{Reply}

@@ -120,7 +120,7 @@ module _ (I : Instance) (valid : IsValid I) where
       let serving = sum_by-le (λ (v : ℕ × ℕ). unwrap_or (lane I v.1 v.0) 0) MAX_AMOUNT P.serves
       (λ k d b. lane_small (lane I (get_or P.serves k d).1 (get_or P.serves k d).0) (valid.lanes_small (get_or P.serves k d).1 (get_or P.serves k d).0)) in
       let each : length P.serves ≡ length I.customers = sym (length-map P.serves (λ v. v.0)) ∙ ap length feasible.each_once ∙ length-map I.customers (λ c. c.id) in
-      omega (arith, opening, serving, each, feasible.at_most, valid.count_small, valid.few_customers)
+      omega (arith, opening, serving, each, feasible.at_most, valid.count_small, valid.sizes.few_customers)
 
   claimed_small : (P : Plan) (cost : ℕ) → Costs I (Some P) cost → cost ≤ MAX_COST
   claimed_small P cost shown = subst (λ c. c ≤ MAX_COST) shown.1 (cost_small P shown.0)

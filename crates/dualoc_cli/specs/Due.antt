@@ -29,7 +29,8 @@ use Rattle.certificate_lines.specs.declared.limits.TheConstants.{MAX_CERTIFICATE
 use Rattle.certificate_lines.specs.declared.fault.CertFault.TheVariants.{Text, TooLong}
 use Rattle.certificate_check.specs.declared.verdict.Verdict.TheVariants.{Yes, No}
 use Rattle.certificate_check.specs.Verdict.{Answer, IsAnswer}
-use Rattle.dualoc_cli.specs.declared.limits.TheConstants.{MAX_INSTANCE_BYTES, DEFAULT_BUDGET}
+use Rattle.fixed_cost.specs.declared.limits.TheConstants.{MAX_INSTANCE_BYTES}
+use Rattle.dualoc_cli.specs.declared.limits.TheConstants.{DEFAULT_BUDGET}
 use Rattle.dualoc_cli.specs.declared.status.Status.{Status}
 use Rattle.dualoc_cli.specs.declared.status.Status.TheVariants.{Done, Infeasible, Bracket, CheckNo, Usage, BadInput, ReadFault, WriteFault, TooLarge, NoMemory}
 use Rattle.dualoc_cli.specs.declared.reply.Reply.{Reply}

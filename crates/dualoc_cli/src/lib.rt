@@ -13,6 +13,7 @@ mod task;
 mod text;
 mod words;
 
-pub use limits::{DEFAULT_BUDGET, MAX_INSTANCE_BYTES};
+pub use fixed_cost::MAX_INSTANCE_BYTES;
+pub use limits::DEFAULT_BUDGET;
 pub use program::run;
 pub use status::Status;

@@ -1,22 +1,22 @@
 //! What a run answers to its words.
-ghost use Rattle.std.specs.Prelude.{◌≡◌, ◌≤◌, Some, IfOk, length, map, string_bytes};
+ghost use Rattle.std.specs.Prelude.{◌≡◌, ◌≤◌, true, Some, IfOk, length, map, string_bytes};
 ghost use Rattle.shelf_port.specs.Files.{NeverFalls};
 ghost use Rattle.shelf_port.specs.Ports.{shelf_state};
 ghost use Rattle.location_terms.specs.Plain.{IsPlain};
 ghost use Rattle.fixed_cost.specs.Reading.{Means};
-ghost use Rattle.dualoc_cli.specs.Command.{OnFile, SolveShort, ShowDuals, Check, command_of, meaning_in};
+ghost use Rattle.instance_store.specs.Small.{IsSmall};
+ghost use Rattle.dualoc_cli.specs.Command.{OnFile, SolveShort, ShowDuals, Check, command_of, is_searched, meaning_in};
 ghost use Rattle.dualoc_cli.specs.Reply.{status_of};
 ghost use Rattle.dualoc_cli.specs.Due.{Run, HasTask, Keeps, Leaves, IsCause, IsRefusal};
-ghost use Rattle.dualoc_cli.specs.Step.{asked, asked_file, asked_job, Covers};
+ghost use Rattle.dualoc_cli.specs.Step.{asked, asked_file, asked_job, Solves, IsSuited, Covers};
 
-use crate::limits::MAX_INSTANCE_BYTES;
 use crate::reply::Reply;
 use crate::search::search;
 use crate::words::{Command, FileForm, InstanceFile, Job};
 use certificate_check::{CertFault, check};
 use dual_ascent::ascend;
 use dual_value::{Duals, Path};
-use fixed_cost::FormFault;
+use fixed_cost::{Amount, FormFault, MAX_INSTANCE_BYTES};
 use instance_store::{Instance, NoMemory};
 use lane_order::LaneOrder;
 use set_walk::{MAX_WALK_SITES, cheapest_plan};
@@ -44,6 +44,7 @@ pub fn reply_to<H: Shelf>(alloc: Global, words: &[String], shelf: &mut H) -> Res
 
 // What is answered to a command.
 fn answer<H: Shelf>(alloc: Global, command: Command<'_>, shelf: &mut H) -> Result<Reply, NoMemory>
+    requires { IsSuited (asked_file command.file) (asked_job command.job) }
     ensures cause { IfOk result (λ reply. (r : Run) → command_of r.words ≡ Some (asked command.entry) →
         Covers r (shelf_state (H.files shelf.old) (H.read_faults shelf.old) (H.write_faults shelf.old))
         (shelf_state (H.files shelf.new) (H.read_faults shelf.new) (H.write_faults shelf.new)) →
@@ -69,13 +70,25 @@ fn answer<H: Shelf>(alloc: Global, command: Command<'_>, shelf: &mut H) -> Resul
 
 // The instance that the bytes of a command's file mean, or their first fault.
 fn read(alloc: Global, file: InstanceFile<'_>, bytes: &[u8]) -> Result<Instance, FormFault>
-    requires { length bytes.now ≤ MAX_INSTANCE_BYTES }
+    requires small { IsSmall file.given }
+    requires within { length bytes.now ≤ MAX_INSTANCE_BYTES }
     ensures meaning { Means (λ inst. inst) result (meaning_in (asked_file file.entry) bytes.now) }
-    ensures plain { IfOk result IsPlain }
+    ensures plain { IfOk result (λ inst. is_searched file.entry.form ≡ true → IsPlain inst) }
 {
     match file.form {
+        FileForm::Cap => orlib_read::read_cap(alloc, bytes, amount(file.given)),
+        FileForm::Uncap => orlib_read::read_uncap(alloc, bytes),
         FileForm::Ufl => ufllib_read::read(alloc, bytes),
+        FileForm::Pmed => pmed_paths::read(alloc, bytes),
     }
+}
+
+// What is given for the word `capacity`, as an amount.
+fn amount(given: Option<u64>) -> Option<Amount>
+    requires { IsSmall given }
+    ensures { result ≡ given }
+{
+    Amount::new(given?)
 }
 
 // What is answered to an instance.
@@ -85,7 +98,7 @@ fn work<H: Shelf>(
     inst: Instance,
     shelf: &mut H,
 ) -> Result<Reply, NoMemory>
-    requires { IsPlain inst }
+    requires { Solves (asked_job job) → IsPlain inst }
     ensures cause { IfOk result (λ reply. (r : Run) → HasTask r (asked_job job.entry) inst →
         Covers r (shelf_state (H.files shelf.old) (H.read_faults shelf.old) (H.write_faults shelf.old))
         (shelf_state (H.files shelf.new) (H.read_faults shelf.new) (H.write_faults shelf.new)) →

@@ -1,17 +1,23 @@
 ghost use Rattle.std.specs.Prelude.{◌≡◌, [], ◌∷◌, map, string_bytes};
 ghost use Rattle.std.specs.Option.{option_map};
-ghost use Rattle.dualoc_cli.specs.Command.{command_of, into_files, solve_of, search_of, budget_of, printed_count, duals_of, check_of, are_names, form_of, plain_command};
+ghost use Rattle.dualoc_cli.specs.Command.{command_of, into_files, solve_of, short_of, search_of, budget_of, printed_count, capacity_of, command_with, duals_of, check_of, are_names, form_of, is_searched, searched_form, plain_command};
 ghost use Rattle.fixed_cost.specs.Amount.{count_of};
 ghost use Rattle.dualoc_cli.specs.Step.{asked, asked_job, asked_result};
 
-use fixed_cost::read_count;
+use fixed_cost::{Amount, read_count};
 use itoa::Buffer;
 
 /// A form of instance files.
 #[derive(Clone, Copy, Debug, PartialEq, Eq)]
 pub enum FileForm {
+    /// The warehouse files of the OR-Library, with their capacities.
+    Cap,
+    /// The same files without their capacities.
+    Uncap,
     /// The simple format of UflLib.
     Ufl,
+    /// The p-median networks of the OR-Library.
+    Pmed,
 }
 
 impl FileForm {
@@ -19,11 +25,29 @@ impl FileForm {
     pub fn of(word: &str) -> Option<FileForm>
         ensures { result ≡ form_of word.now }
     {
-        if word == "ufl" {
-            Some(FileForm::Ufl)
-        } else {
-            None
+        match word {
+            "cap" => Some(FileForm::Cap),
+            "uncap" => Some(FileForm::Uncap),
+            "ufl" => Some(FileForm::Ufl),
+            "pmed" => Some(FileForm::Pmed),
+            _ => None,
         }
+    }
+
+    // The form that a word names, where a search takes its instances.
+    #[tactic(auto, unfolding(crate::specs::Command::searched_form))]
+    fn searched(word: &str) -> Option<FileForm>
+        ensures { result ≡ searched_form word.now }
+    {
+        let form = FileForm::of(word)?;
+        if form.is_searched() { Some(form) } else { None }
+    }
+
+    // Whether no site of an instance of this form has a capacity, and any number of sites may be open.
+    fn is_searched(self) -> bool
+        ensures { result ≡ is_searched self }
+    {
+        matches!(self, FileForm::Uncap | FileForm::Ufl)
     }
 }
 
@@ -86,9 +110,7 @@ fn solve(words: &[String]) -> Option<Command<'_>>
     ensures { option_map asked result ≡ solve_of (map string_bytes words.now) }
 {
     match words {
-        [form, file] if form.as_str() == "ufl" && !file.is_empty() => {
-            Some(plain(Job::SolveShort, file.as_str(), FileForm::Ufl))
-        }
+        [form, file] => short(form.as_str(), file.as_str()),
         [form, file, plan, certificate] => {
             search(form.as_str(), file.as_str(), into(plan, certificate), None)
         }
@@ -102,6 +124,17 @@ fn solve(words: &[String]) -> Option<Command<'_>>
             )
         }
         _ => None,
+    }
+}
+
+// The command of the short form of `solve`.
+fn short<'a>(form: &str, file: &'a str) -> Option<Command<'a>>
+    ensures { option_map asked result ≡ short_of form.now file.now }
+{
+    if form == "ufl" && !file.is_empty() {
+        Some(plain(Job::SolveShort, file, FileForm::Ufl))
+    } else {
+        None
     }
 }
 
@@ -127,7 +160,7 @@ fn search<'a>(
     if !are_apart(file, into.plan, into.certificate) {
         return None;
     }
-    let form = FileForm::of(form)?;
+    let form = FileForm::searched(form)?;
     Some(plain(Job::SolveLong(into, budget), file, form))
 }
 
@@ -158,6 +191,12 @@ fn duals(words: &[String]) -> Option<Command<'_>>
             let form = FileForm::of(form.as_str())?;
             Some(plain(Job::ShowDuals, file.as_str(), form))
         }
+        [form, file, option] if !file.is_empty() => with_capacity(
+            option.as_str(),
+            Job::ShowDuals,
+            file.as_str(),
+            form.as_str(),
+        ),
         _ => None,
     }
 }
@@ -171,7 +210,44 @@ fn check(words: &[String]) -> Option<Command<'_>>
             let form = FileForm::of(form.as_str())?;
             Some(plain(Job::Check(certificate.as_str()), file.as_str(), form))
         }
+        [form, file, certificate, option] if are_names(file.as_str(), certificate.as_str()) => {
+            with_capacity(
+                option.as_str(),
+                Job::Check(certificate.as_str()),
+                file.as_str(),
+                form.as_str(),
+            )
+        }
         _ => None,
+    }
+}
+
+// A job on a file of the form `cap`, with the option `capacity`.
+fn with_capacity<'a>(option: &str, job: Job<'a>, name: &'a str, form: &str) -> Option<Command<'a>>
+    ensures { option_map asked result ≡ command_with option.now (asked_job job.entry) name.now form.now }
+{
+    if form != "cap" {
+        return None;
+    }
+    let given = Some(capacity(option)?);
+    Some(Command {
+        file: InstanceFile {
+            form: FileForm::Cap,
+            name,
+            given,
+        },
+        job,
+    })
+}
+
+// The capacity that an option gives, in millionths, if it is one.
+fn capacity(option: &str) -> Option<u64>
+    ensures { result ≡ capacity_of option.now }
+{
+    let word = option.as_bytes().strip_prefix(b"capacity=")?;
+    match Amount::read(word) {
+        Ok(amount) => Some(amount.micro()),
+        Err(_) => None,
     }
 }
 

@@ -121,7 +121,7 @@ const FILES: [(&str, Status, &str); 22] = [
 ];
 
 // Words over the file of the two sites: a command on it, on a file that isn't there, or none.
-const WORDS: [(&[&str], Status, &str); 17] = [
+const WORDS: [(&[&str], Status, &str); 16] = [
     (&[], Status::Usage, "usage\n"),
     (&["solve"], Status::Usage, "usage\n"),
     (&["solve", "ufl"], Status::Usage, "usage\n"),
@@ -132,7 +132,6 @@ const WORDS: [(&[&str], Status, &str); 17] = [
     (&["solve", "ufl", "b"], Status::ReadFault, "read fault\n"),
     (&["duals", "ufl", "a"], Status::Done, ITS_DUALS),
     (&["duals"], Status::Usage, "usage\n"),
-    (&["duals", "cap", "a"], Status::Usage, "usage\n"),
     (
         &["duals", "ufl", "a", "capacity=10"],
         Status::Usage,

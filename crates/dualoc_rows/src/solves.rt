@@ -81,26 +81,26 @@ const REFUSED: [(&[&str], Status, &str); 17] = [
 ];
 
 #[derive(Drop)]
-struct Outcome {
+pub(crate) struct Outcome {
     status: Status,
     text: Vec<u8>,
     plan: Vec<u8>,
-    certificate: Vec<u8>,
+    pub(crate) certificate: Vec<u8>,
 }
 
 impl Outcome {
-    fn is(&self, status: Status, text: &str) -> bool {
+    pub(crate) fn is(&self, status: Status, text: &str) -> bool {
         self.status == status && self.text.as_slice() == text.as_bytes()
     }
 
-    fn leaves(&self, plan: &str, certificate: &[u8]) -> bool {
+    pub(crate) fn leaves(&self, plan: &str, certificate: &[u8]) -> bool {
         self.plan.as_slice() == plan.as_bytes() && self.certificate.as_slice() == certificate
     }
 }
 
 // A run over the file `a`, and over `p` and `c` where they are not empty. One call of the shelf and one of
 // the output fail, by their numbers from 1.
-fn ran(
+pub(crate) fn ran(
     alloc: Global,
     words: &[&str],
     texts: [&[u8]; 3],
