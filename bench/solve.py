@@ -1,10 +1,11 @@
 """Solves a folder's instances with a built program, and compares with a table: `solve.py PROGRAM FOLDER TABLE [NAME ..]`.
 
-The instances are the files `*.ufl` of the folder, in the UflLib simple format; other files are passed over. The table
+The instances are the files `*.ufl` of the folder, in the UflLib simple format, and `*.uncap`, warehouse files whose
+capacities don't count; other files are passed over. The table
 has a line for each instance, of columns parted by tabs that its first line names. Those that are used are `instance`,
 the file's name, and, each of which may be empty, `optimum`, `reference_seconds` and `reference_nodes`.
 
-For each instance `dualoc solve ufl` writes a plan and a certificate, and `dualoc check ufl` has to say yes to what was
+For each instance `dualoc solve FORM` writes a plan and a certificate, and `dualoc check FORM` has to say yes to what was
 printed. A line says
 
     cost          yes: it is the table's; new: it is optimal, and the table has none; open: a bracket about the table's
@@ -29,6 +30,7 @@ import tempfile
 from timing import Run
 
 MICRO = 10**6
+FORMS = ("ufl", "uncap")
 OPTIMAL, BRACKET = 0, 2
 # A run below so many seconds is repeated, so often in all.
 SHORT, TIMES = 1, 3
@@ -47,12 +49,17 @@ def shown(cells):
     return " ".join(f"{cell:>{-width}}" if width < 0 else f"{cell:<{width}}" for cell, width in zip(cells, WIDTHS))
 
 
+def form_of(name):
+    return name.rpartition(".")[2]
+
+
 class Answer:
     """What the program and its checker say of an instance."""
 
     def __init__(self, options, instance, folder):
         files = [instance, os.path.join(folder, "plan"), os.path.join(folder, "certificate")]
-        words = [options.program, "solve", "ufl", *files]
+        form = form_of(instance)
+        words = [options.program, "solve", form, *files]
         words += [f"budget={options.budget}"] if options.budget is not None else []
         runs = [Run(words, options.limit)]
         while len(runs) < TIMES and runs[0].seconds < SHORT:
@@ -65,7 +72,7 @@ class Answer:
             self.nodes = int(self.run.said.split(" nodes ")[1].split()[0])
             self.ends = [micro(word) for word in self.claim.split()[1:]]
             self.size = os.path.getsize(files[2])
-            self.check = Run([options.program, "check", "ufl", instance, files[2]], options.limit)
+            self.check = Run([options.program, "check", form, instance, files[2]], options.limit)
 
     def is_accepted(self):
         return self.is_answer and (self.check.said, self.check.status) == (f"yes {self.claim}", 0)
@@ -101,18 +108,20 @@ def instances(options, table):
     """The names of the instances, in the order of the table and then by name."""
     ranks = {name: rank for rank, name in enumerate(table)}
     there = os.listdir(options.folder)
-    names = sorted((it for it in there if it.endswith(".ufl")), key=lambda it: (ranks.get(it, len(ranks)), it))
-    asked = [it if it.endswith(".ufl") else f"{it}.ufl" for it in options.names]
+    names = sorted((it for it in there if form_of(it) in FORMS), key=lambda it: (ranks.get(it, len(ranks)), it))
+    asked = [it if form_of(it) in FORMS else f"{it}.ufl" for it in options.names]
     unknown = [it for it in asked if it not in names]
     if unknown:
         sys.exit(f"solve.py: the folder has no {', '.join(unknown)}")
     if len(names) < len(there):
-        print(f"passed over: {len(there) - len(names)} files that aren't of the form ufl")
+        print(f"passed over: {len(there) - len(names)} files of other forms")
     return asked or names
 
 
 def peers(options, instance, answer):
-    """Prints what other solvers take, on the lanes that can matter where a plan is at hand."""
+    """Prints what other solvers take, on the lanes that can matter where a plan is at hand, for the form `ufl` alone."""
+    if form_of(instance) != "ufl":
+        return
     words = [sys.executable, os.path.join(os.path.dirname(os.path.abspath(__file__)), "peers.py")]
     cost = [answer.claim.split()[-1]] if answer.is_answer else []
     subprocess.run([*words, "--limit", str(options.limit), options.program, instance, *cost], check=False)

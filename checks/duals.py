@@ -12,19 +12,24 @@ DONE = 0
 
 
 class Ascent:
-    """The ascent at the root from duals of 0, at scale 1: `fixed` and `lanes` (by site, then customer) in millionths."""
+    """The ascent at the root from duals of 0, at scale 1: `fixed` and `lanes` (by site, then customer) in millionths, and
+    `None` where a lane isn't allowed."""
 
     def __init__(self, fixed, lanes):
         self.fixed, self.lanes = fixed, lanes
         self.sites, self.customers = range(len(fixed)), range(len(lanes[0]))
         self.v = [0] * len(self.customers)
         for j in self.customers:
-            self.v[j] = max(self.v[j], min(self.lanes[i][j] for i in self.sites))
+            self.v[j] = max(self.v[j], min(self.levels(j).values(), default=0))
         while self.round():
             pass
 
+    def levels(self, j):
+        """The levels of a customer's allowed lanes, by site."""
+        return {i: self.lanes[i][j] for i in self.sites if self.lanes[i][j] is not None}
+
     def slack(self, i):
-        return self.fixed[i] - sum(max(0, self.v[j] - self.lanes[i][j]) for j in self.customers)
+        return self.fixed[i] - sum(max(0, self.v[j] - lane) for j, lane in enumerate(self.lanes[i]) if lane is not None)
 
     def round(self):
         """Whether a dual rose in the round."""
@@ -34,11 +39,11 @@ class Ascent:
         return self.v != before
 
     def raise_dual(self, j):
-        levels = [self.lanes[i][j] for i in self.sites]
-        reached = [self.slack(i) for i in self.sites if levels[i] <= self.v[j]]
-        if any(slack <= 0 for slack in reached):
+        levels = self.levels(j)
+        reached = [self.slack(i) for i, level in levels.items() if level <= self.v[j]]
+        if not levels or any(slack <= 0 for slack in reached):
             return
-        above = [level - self.v[j] for level in levels if level > self.v[j]]
+        above = [level - self.v[j] for level in levels.values() if level > self.v[j]]
         self.v[j] += min(reached + above)
 
     def text(self):

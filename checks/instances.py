@@ -23,12 +23,12 @@ class Fault(Exception):
     """The line that the program prints."""
 
 
-def words_of(text):
-    """The words behind a line of `FILE:`, each with its line and its place in it, and the place behind the last word."""
+def words_of(text, title=b"FILE:"):
+    """The words behind a line of the title, each with its line and its place in it, and the place behind the last word."""
     words = [(number, place, word) for number, line in enumerate(text.split(b"\n"), 1)
              for place, word in enumerate((it for it in re.split(rb"[ \t\r]+", line) if it), 1)]
     end = (words[-1][0], words[-1][1] + 1) if words else (1, 1)
-    if words and words[0][2].startswith(b"FILE:"):
+    if title and words and words[0][2].startswith(title):
         words = [it for it in words if it[0] != words[0][0]]
     return words, end
 
@@ -48,8 +48,8 @@ def amount_of(word):
 class Reader:
     """Words, one behind the other."""
 
-    def __init__(self, text):
-        self.words, self.end = words_of(text)
+    def __init__(self, text, title=b"FILE:"):
+        self.words, self.end = words_of(text, title)
         self.next = 0
 
     def fault(self, kind, place):
@@ -70,23 +70,30 @@ class Reader:
     def size(self, most, kind):
         return self.amount(lambda it: None if it % MICRO == 0 and 1 <= it // MICRO <= most else kind) // MICRO
 
+    def sizes(self):
+        """The numbers of sites and of customers."""
+        m = self.size(MOST_SITES, "BadSize")
+        return m, self.size(min(MOST_CUSTOMERS, MOST_LANES // m), "BadSize")
+
     def number(self, due, kind):
         self.amount(lambda it: None if it == due * MICRO else kind)
+
+    def finish(self):
+        if self.next < len(self.words):
+            self.fault("Trailing", self.words[self.next])
 
 
 def read(text):
     """The opening costs and the rows of connection costs, in millionths."""
     reader = Reader(text)
-    m = reader.size(MOST_SITES, "BadSize")
-    n = reader.size(min(MOST_CUSTOMERS, MOST_LANES // m), "BadSize")
+    m, n = reader.sizes()
     reader.number(0, "NotZero")
     fixed, lanes = [], []
     for site in range(1, m + 1):
         reader.number(site, "BadIndex")
         fixed.append(reader.amount())
         lanes.append([reader.amount() for _ in range(n)])
-    if reader.next < len(reader.words):
-        reader.fault("Trailing", reader.words[reader.next])
+    reader.finish()
     return fixed, lanes
 
 
@@ -146,12 +153,12 @@ WORDS = [b"0", b"1", b"2", b"+", b".", b"+.", b"1.", b".5", b"+.5", b"++1", b"-1
          b"3000", b"3001", b"5000", b"5001", b"3333", b"3334", b"4294967297", b"\xc2\xa01", b"\0"]
 
 
-def changed_words(text, count):
+def changed_words(text, count, words=WORDS):
     """Random changes of whole words, with the white space as it was."""
     for _ in range(count):
         parts = re.split(rb"([ \t\r\n]+)", text)
         place = random.randrange(0, len(parts), 2)
-        parts[place] = random.choice([*WORDS, b"", parts[place] + b" " + parts[place], random.choice(parts[::2])])
+        parts[place] = random.choice([*words, b"", parts[place] + b" " + parts[place], random.choice(parts[::2])])
         yield b"".join(parts)
 
 
