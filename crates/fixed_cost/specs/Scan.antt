@@ -1,7 +1,8 @@
 -- What a scanner has left of a text.
-use Rattle.std.specs.Prelude.{ℕ, ◌+◌, ◌≤◌, ◌^◌, List, [], ◌∷◌, ◌++◌}
+use Rattle.std.specs.Prelude.{ℕ, ◌+◌, ◌≤◌, List, [], ◌∷◌, ◌++◌}
 use Rattle.std.specs.List.{slice_split}
 use Rattle.fixed_cost.specs.Words.{PlacedWord, is_line_feed, runs_of, words_in_line, words_in_lines}
+use Rattle.fixed_cost.specs.declared.limits.TheConstants.{MAX_INSTANCE_BYTES}
 use Rattle.fixed_cost.specs.declared.scan.Words.TheInside.{Inside}
 
 -- the words of lines, of which the first goes on at a line and a place
@@ -21,5 +22,5 @@ words_behind s = words_left s.line s.place s.rest.now
 pub record HasRoom (line place len : ℕ) : Type 0 where
   pub line_counts : 1 ≤ line
   pub place_counts : 1 ≤ place
-  pub line_fits : line + len ≤ 2 ^ 28 + 1
-  pub place_fits : place + len ≤ 2 ^ 28 + 1
+  pub line_fits : line + len ≤ MAX_INSTANCE_BYTES + 1
+  pub place_fits : place + len ≤ MAX_INSTANCE_BYTES + 1

@@ -3,6 +3,7 @@ ghost use Rattle.std.specs.Prelude.{◌≤◌, length};
 use super::*;
 use fixed_cost::{FileFault, FileKind};
 use instance_store::{CustId, SiteId};
+use std::ops::Range;
 use std::test::Fail;
 
 const PAIR: &str = "2 2\n10 7500.00000\n10 0.50000\n6 6739.72500 1.25\n6 3.00000 4.00000\n";
@@ -11,24 +12,20 @@ const PAIR: &str = "2 2\n10 7500.00000\n10 0.50000\n6 6739.72500 1.25\n6 3.00000
 const LAYOUT: &str =
     " 2 3 \n 5000 7500. \n 5000 7500. \n 146 \n 6739.72500 10355.05000 \n 87 \n 3204.86250 3853.29375 \n 672 \n 4914.00000 \n 26409.60000 \n";
 
-// The fault of a short file, read with its capacities, where it has one.
-fn fault_of(alloc: Global, bytes: &[u8]) -> Option<FileFault>
-    requires { length bytes.now ≤ 1000 }
-{
-    match read_cap(alloc, bytes, None) {
+// The fault of a file that was read, where it has one.
+fn fault_of(read: Result<Instance, FormFault>) -> Option<FileFault> {
+    match read {
         Err(FormFault::File(fault)) => Some(fault),
         _ => None,
     }
 }
 
-// The same of a file that is read without them.
-fn fault_without(alloc: Global, bytes: &[u8]) -> Option<FileFault>
+// Whether a short file has this fault, with its capacities and without them.
+fn fails_as(alloc: Global, bytes: &[u8], fault: FileFault) -> bool
     requires { length bytes.now ≤ 1000 }
 {
-    match read_uncap(alloc, bytes) {
-        Err(FormFault::File(fault)) => Some(fault),
-        _ => None,
-    }
+    fault_of(read_cap(alloc, bytes, None)) == Some(fault)
+        && fault_of(read_uncap(alloc, bytes)) == Some(fault)
 }
 
 fn has_sites_of_pair(inst: &Instance, cap: Option<u64>) -> bool {
@@ -111,44 +108,86 @@ fn names_the_first_fault(rt: HostRuntime) {
     ];
     for (text, kind, line, word) in rows {
         assert!(rt; text.len() <= 1_000);
-        let want = Some(FileFault { kind, line, word });
-        let found = fault_of(rt.alloc(), text.as_bytes());
-        assert_eq!(rt; found, want, "{text:?}");
-        let found = fault_without(rt.alloc(), text.as_bytes());
-        assert_eq!(rt; found, want, "{text:?}");
+        let want = FileFault { kind, line, word };
+        assert!(rt; fails_as(rt.alloc(), text.as_bytes(), want), "{text:?}");
     }
 }
 
 #[test]
 fn wants_a_capacity_where_one_is_kept(rt: HostRuntime) {
     let text = "1 1\n5 0 5 2".as_bytes();
-    assert_eq!(rt; fault_of(rt.alloc(), text), None);
+    assert_eq!(rt; fault_of(read_cap(rt.alloc(), text, None)), None);
     let text = "1 1\ncapacity x".as_bytes();
-    let kind = FileKind::NeedCapacity;
-    let want = FileFault {
-        kind,
+    let missing = FileFault {
+        kind: FileKind::NeedCapacity,
         line: 2,
         word: 1,
     };
-    assert_eq!(rt; fault_of(rt.alloc(), text), Some(want));
-    let kind = FileKind::NotANumber;
-    let want = FileFault {
-        kind,
+    assert_eq!(rt; fault_of(read_cap(rt.alloc(), text, None)), Some(missing));
+    let spelled = FileFault {
+        kind: FileKind::NotANumber,
         line: 2,
         word: 2,
     };
-    assert_eq!(rt; fault_without(rt.alloc(), text), Some(want));
+    assert_eq!(rt; fault_of(read_uncap(rt.alloc(), text)), Some(spelled));
+}
+
+// Whether a short text that ends behind so many bytes, for each of these lengths, ends where the word of
+// this place is due.
+fn ends_at(alloc: Global, text: &str, lens: Range<usize>, line: u32, word: u32) -> bool {
+    let kind = FileKind::Ended;
+    let due = FileFault { kind, line, word };
+    for len in lens {
+        if len > text.len() || len > 1_000 || !fails_as(alloc, &text.as_bytes()[..len], due) {
+            return false;
+        }
+    }
+    true
 }
 
 #[test]
 fn reads_no_part_of_a_file(rt: HostRuntime) {
-    let before_last_word = [(PAIR, 57), (LAYOUT, 112)];
-    for (text, last) in before_last_word {
-        assert!(rt; last < text.len() && text.len() <= 1_000);
-        for len in 0..last + 1 {
-            let fault = fault_of(rt.alloc(), &text.as_bytes()[..len]);
-            let kind = fault.map(|fault| fault.kind);
-            assert_eq!(rt; kind, Some(FileKind::Ended), "{len}");
-        }
+    let pair = [
+        (0..1, 1, 1),
+        (1..3, 1, 2),
+        (3..5, 1, 3),
+        (5..8, 2, 2),
+        (8..19, 2, 3),
+        (19..22, 3, 2),
+        (22..30, 3, 3),
+        (30..32, 4, 2),
+        (32..43, 4, 3),
+        (43..48, 4, 4),
+        (48..50, 5, 2),
+        (50..58, 5, 3),
+    ];
+    for (lens, line, word) in pair {
+        assert!(rt;
+            ends_at(rt.alloc(), PAIR, lens, line, word),
+            "{line} {word}"
+        );
+    }
+    let layout = [
+        (0..2, 1, 1),
+        (2..4, 1, 2),
+        (4..8, 1, 3),
+        (8..13, 2, 2),
+        (13..21, 2, 3),
+        (21..26, 3, 2),
+        (26..34, 3, 3),
+        (34..40, 4, 2),
+        (40..51, 5, 2),
+        (51..65, 5, 3),
+        (65..70, 6, 2),
+        (70..81, 7, 2),
+        (81..94, 7, 3),
+        (94..100, 8, 2),
+        (100..113, 9, 2),
+    ];
+    for (lens, line, word) in layout {
+        assert!(rt;
+            ends_at(rt.alloc(), LAYOUT, lens, line, word),
+            "{line} {word}"
+        );
     }
 }

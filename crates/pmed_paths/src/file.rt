@@ -1,6 +1,6 @@
 //! The parts of a file: its head, and its edges.
 
-ghost use Rattle.std.specs.Prelude.{◌≡◌, ◌≤◌, ◌^◌, length, IfOk};
+ghost use Rattle.std.specs.Prelude.{◌≡◌, ◌≤◌, length, IfOk};
 ghost use Rattle.fixed_cost.specs.Reading.{Means, Reads, ReadsForm};
 ghost use Rattle.pmed_paths.specs.Network.{AreCounts, AreEdges, IsLine};
 ghost use Rattle.pmed_paths.specs.Pmed.{head_at, edge_at, edges_at, network_at, network_meaning};
@@ -8,7 +8,7 @@ ghost use Rattle.pmed_paths.specs.Stored.{edges_in, with_edge};
 
 use crate::limits::MAX_EDGES;
 use crate::network::Network;
-use fixed_cost::{FileFault, FileKind, FormFault, WordReader};
+use fixed_cost::{FileFault, FileKind, FormFault, MAX_INSTANCE_BYTES, WordReader};
 use location_terms::MAX_SITES;
 use std::alloc::{AllocError, Global};
 use std::collections::BTreeMap;
@@ -29,12 +29,12 @@ struct Edge {
     cost: u64,
 }
 
-/// The network that a file of at most 2^28 bytes means. Of several edges between the same two vertices
-/// the last counts, and one from a vertex to itself is dropped. The fault is that of the first word that
-/// has one.
+/// The network that a file of at most `MAX_INSTANCE_BYTES` means. Of several edges between the same two
+/// vertices the last counts, and one from a vertex to itself is dropped. The fault is that of the first
+/// word that has one.
 #[tactic(auto, unfolding(crate::specs::Pmed::network_meaning))]
 pub fn read_net(alloc: Global, bytes: &[u8]) -> Result<Network, FormFault>
-    requires { length bytes.now ≤ 2 ^ 28 }
+    requires { length bytes.now ≤ MAX_INSTANCE_BYTES }
     ensures { Means (λ net. net) result (network_meaning bytes.now) }
 {
     network(alloc, WordReader::new(bytes))

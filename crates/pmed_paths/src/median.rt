@@ -1,6 +1,6 @@
 //! The instance of a network.
 
-ghost use Rattle.std.specs.Prelude.{◌≡◌, ◌+◌, ◌<◌, ◌≤◌, ◌^◌, ◌++◌, ◌∷◌, [], false, map, length, IfOk, IfErr};
+ghost use Rattle.std.specs.Prelude.{◌≡◌, ◌+◌, ◌<◌, ◌≤◌, ◌++◌, ◌∷◌, [], false, map, length, IfOk, IfErr};
 ghost use Rattle.std.specs.List.{list_any, range_with_len};
 ghost use Rattle.location_terms.specs.Instance.{IsValid};
 ghost use Rattle.fixed_cost.specs.Reading.{Means};
@@ -15,7 +15,7 @@ use crate::arcs::{ArcRow, arcs_of};
 use crate::distances::{Distances, distances_from};
 use crate::file::read_net;
 use crate::network::Network;
-use fixed_cost::{FileFault, FileKind, FormFault};
+use fixed_cost::{FileFault, FileKind, FormFault, MAX_INSTANCE_BYTES};
 use instance_store::{CustId, CustRow, Instance, LaneRow, NoMemory, SiteId, SiteRow};
 use location_terms::{MAX_AMOUNT, MAX_SITES};
 use std::alloc::Global;
@@ -56,12 +56,12 @@ pub fn to_instance(alloc: Global, net: &Network) -> Result<Instance, PathFault>
     store(alloc, net, sites)
 }
 
-/// The instance that a file of at most 2^28 bytes means. The fault is that of the first word that has
-/// one. After all of them comes `TooBig`, at the last word, where some cheapest walk costs more than an
-/// amount can be.
+/// The instance that a file of at most `MAX_INSTANCE_BYTES` means. The fault is that of the first word
+/// that has one. After all of them comes `TooBig`, at the last word, where some cheapest walk costs more
+/// than an amount can be.
 #[tactic(auto, unfolding(crate::specs::Pmed::median_meaning))]
 pub fn read(alloc: Global, bytes: &[u8]) -> Result<Instance, FormFault>
-    requires { length bytes.now ≤ 2 ^ 28 }
+    requires { length bytes.now ≤ MAX_INSTANCE_BYTES }
     ensures meaning { Means (λ inst. inst) result (median_meaning bytes.now) }
     ensures valid { IfOk result IsValid }
 {
@@ -74,7 +74,7 @@ pub fn read(alloc: Global, bytes: &[u8]) -> Result<Instance, FormFault>
 
 /// A fault of a network as one of the file, at its last word.
 fn in_file(bytes: &[u8], fault: PathFault) -> FormFault
-    requires { length bytes.now ≤ 2 ^ 28 }
+    requires { length bytes.now ≤ MAX_INSTANCE_BYTES }
     ensures { result ≡ fault_in (words_of bytes.now) fault }
 {
     match fault {

@@ -4,6 +4,7 @@ use super::*;
 use fixed_cost::{FileFault, FileKind, FormFault};
 use instance_store::{Instance, SiteStatus};
 use std::alloc::Global;
+use std::ops::Range;
 use std::test::Fail;
 
 // Three vertices; the last edge between 1 and 2 counts.
@@ -25,11 +26,11 @@ fn costs_from(alloc: Global, text: &str, vertex: u32) -> Option<[Option<u64>; 3]
 }
 
 // The fault of a short file, where it has one.
-fn fault_of(alloc: Global, text: &str) -> Option<FileFault> {
-    if text.len() > 1_000 {
+fn fault_of(alloc: Global, bytes: &[u8]) -> Option<FileFault> {
+    if bytes.len() > 1_000 {
         return None;
     }
-    match read(alloc, text.as_bytes()) {
+    match read(alloc, bytes) {
         Err(FormFault::File(fault)) => Some(fault),
         _ => None,
     }
@@ -105,7 +106,45 @@ fn names_the_first_fault(rt: HostRuntime) {
     ];
     for (text, kind, line, word) in rows {
         let want = FileFault { kind, line, word };
-        assert_eq!(rt; fault_of(rt.alloc(), text), Some(want), "{text:?}");
+        let found = fault_of(rt.alloc(), text.as_bytes());
+        assert_eq!(rt; found, Some(want), "{text:?}");
+    }
+}
+
+// Whether a text that ends behind so many bytes, for each of these lengths, ends where the word of this
+// place is due.
+fn ends_at(alloc: Global, text: &str, lens: Range<usize>, line: u32, word: u32) -> bool {
+    let kind = FileKind::Ended;
+    let due = Some(FileFault { kind, line, word });
+    for len in lens {
+        if len > text.len() || fault_of(alloc, &text.as_bytes()[..len]) != due {
+            return false;
+        }
+    }
+    true
+}
+
+#[test]
+fn reads_no_part_of_a_file(rt: HostRuntime) {
+    let rows = [
+        (0..1, 1, 1),
+        (1..3, 1, 2),
+        (3..5, 1, 3),
+        (5..7, 1, 4),
+        (7..9, 2, 2),
+        (9..11, 2, 3),
+        (11..13, 2, 4),
+        (13..15, 3, 2),
+        (15..17, 3, 3),
+        (17..19, 3, 4),
+        (19..21, 4, 2),
+        (21..23, 4, 3),
+    ];
+    for (lens, line, word) in rows {
+        assert!(rt;
+            ends_at(rt.alloc(), THREE, lens, line, word),
+            "{line} {word}"
+        );
     }
 }
 

@@ -3,6 +3,7 @@ ghost use Rattle.std.specs.Prelude.{◌≤◌, length};
 use super::*;
 use fixed_cost::{FileFault, FileKind};
 use instance_store::{CustId, SiteId, SiteStatus};
+use std::ops::Range;
 use std::test::Fail;
 
 const PAIR: &str = "FILE: a\n2 3 0\n1 10 1 2 9\n2 12 8 7 1\n";
@@ -124,17 +125,42 @@ fn names_the_first_fault(rt: HostRuntime) {
     }
 }
 
+// Whether a short text that ends behind so many bytes, for each of these lengths, has this fault.
+fn fails_at(alloc: Global, text: &str, lens: Range<usize>, fault: FileFault) -> bool {
+    for len in lens {
+        if len > text.len()
+            || len > 1_000
+            || fault_of(alloc, &text.as_bytes()[..len]) != Some(fault)
+        {
+            return false;
+        }
+    }
+    true
+}
+
 #[test]
 fn reads_no_part_of_a_file(rt: HostRuntime) {
-    assert_eq!(rt; PAIR.len(), 36);
-    for len in 0..PAIR.len() - 1 {
-        let kind = if 1 <= len && len < 5 {
-            FileKind::NotANumber
-        } else {
-            FileKind::Ended
-        };
-        let fault = fault_of(rt.alloc(), &PAIR.as_bytes()[..len]);
-        assert_eq!(rt; fault.map(|fault| fault.kind), Some(kind), "{len}");
+    let rows = [
+        (0..1, FileKind::Ended, 1, 1),
+        (1..5, FileKind::NotANumber, 1, 1),
+        (5..7, FileKind::Ended, 1, 2),
+        (7..9, FileKind::Ended, 1, 3),
+        (9..11, FileKind::Ended, 2, 2),
+        (11..13, FileKind::Ended, 2, 3),
+        (13..15, FileKind::Ended, 2, 4),
+        (15..17, FileKind::Ended, 3, 2),
+        (17..20, FileKind::Ended, 3, 3),
+        (20..22, FileKind::Ended, 3, 4),
+        (22..24, FileKind::Ended, 3, 5),
+        (24..26, FileKind::Ended, 3, 6),
+        (26..28, FileKind::Ended, 4, 2),
+        (28..31, FileKind::Ended, 4, 3),
+        (31..33, FileKind::Ended, 4, 4),
+        (33..35, FileKind::Ended, 4, 5),
+    ];
+    for (lens, kind, line, word) in rows {
+        let want = FileFault { kind, line, word };
+        assert!(rt; fails_at(rt.alloc(), PAIR, lens, want), "{line} {word}");
     }
 }
 
