@@ -1,12 +1,16 @@
 -- What trials, rounds and the whole adjustment come to.
-use Rattle.std.proofs.Common.{◌≡◌, ℕ, ◌≤◌, sym, ap, subst, ◌∙◌, arith, Option, Some, unwrap_or, ℤ, ◌≤ℤ◌, ◌<ℤ◌, None}
+use Rattle.std.proofs.Common.{◌≡◌, ℕ, ◌<◌, ◌≤◌, sym, ap, subst, ◌∙◌, arith, length, Option, Some, unwrap_or, ℤ, ◌≤ℤ◌, ◌<ℤ◌, None}
+use mir.Syntax.{w128}
+use mir.Val.{to_z, of_z}
 use Rattle.std.proofs.lemmas.Int.{ints}
-use Rattle.location_terms.specs.Instance.{Instance}
+use Rattle.location_terms.specs.Instance.{Instance, IsValid}
 use Rattle.location_terms.specs.Box.{Path}
 use Rattle.location_terms.specs.Bound.{Duals, v_at, bound_of}
 use Rattle.location_terms.specs.Fit.{AreTame}
+use Rattle.location_terms.specs.declared.limits.TheConstants.{MAX_VALUE}
 use Rattle.dual_value.specs.Prepared.{Prepared}
 use Rattle.dual_value.specs.Slacks.{AreSlacks}
+use Rattle.dual_value.proofs.Sizes.{kept}
 use Rattle.dual_ascent.specs.Levels.{customer_places}
 use Rattle.dual_ascent.specs.Ascent.{with_v, IsAscended, IsAscendedApart, IsBlocked}
 use Rattle.dual_ascent.specs.Kept.{Keeps}
@@ -14,12 +18,11 @@ use Rattle.dual_ascent.specs.Work.{IsWorkFor}
 use Rattle.dual_ascent.proofs.Again.{again}
 use Rattle.dual_ascent.proofs.Results.{all_known}
 use Rattle.dual_ascent.proofs.Rounds.{one_ascent}
-use Rattle.dual_ascent.proofs.Ceiling.{same_prices}
 use Rattle.dual_adjust.specs.Adjustment.{greatest, lowered, IsCandidate, Gains}
 use Rattle.dual_adjust.specs.Paid.{levels_below}
 use Rattle.dual_adjust.specs.Present.{Present, HasAscended, HaveSamePrices}
 use Rattle.dual_adjust.specs.Adjusted.{IsTried, AreTrials, IsAdjusted, IsGain}
-use Rattle.dual_adjust.proofs.Lowered.{no_gain}
+use Rattle.dual_adjust.proofs.Lowered.{no_gain, lower_level_small}
 use Rattle.dual_adjust.specs.Stored.{AreAlike}
 use Rattle.dual_adjust.specs.declared.trials.Trials.TheInside.{Inside}
 
@@ -29,23 +32,23 @@ module _ (I : Instance) (path : Path) where
   risen_from start p tame asc keeps blocked slacks work =
       record { tame = keeps.tame; ascended = again I path (customer_places I) (all_known I path) start tame.fit.of_instance.customers p.duals asc; blocked = blocked; slacks = slacks; work = work }
 
-  -- the duals of the trial, with the present ones' values and the customer's dual lowered
-  pub lowered_from : (d t a b : Duals) (j : ℕ) (l : ℤ) → HaveSamePrices d t → greatest (levels_below I path d j) ≡ Some l → a ≡ (let e : Duals = record t { v = d.v } in e) → b ≡ with_v a j l → b ≡ lowered I path d j
-  lowered_from d t a b j l same is copied set =
-      let values : a ≡ d = copied ∙ same_prices t d (sym same.scale) (sym same.count_price) (sym same.prices) in
+  -- the duals of the trial, a copy of the present ones with the customer's dual lowered
+  pub lowered_from : (d a b : Duals) (j : ℕ) (l : ℤ) → IsValid I → AreTame I d → j < length I.customers → greatest (levels_below I path d j) ≡ Some l → a ≡ d → b ≡ with_v a j (to_z w128 (of_z w128 l)) → b ≡ lowered I path d j
+  lowered_from d a b j l valid tame inside is copied set =
+      let bits : to_z w128 (of_z w128 l) ≡ l = kept l MAX_VALUE (lower_level_small I path d j valid tame inside l is) (omega arith) in
       let value : unwrap_or (greatest (levels_below I path d j)) (v_at d j) ≡ l = ap (λ (o : Option ℤ). unwrap_or o (v_at d j)) is in
-      set ∙ ap (λ (e : Duals). with_v e j l) values ∙ ap (with_v d j) (sym value)
+      set ∙ ap (λ (e : Duals). with_v e j (to_z w128 (of_z w128 l))) copied ∙ ap (with_v d j) (bits ∙ sym value)
 
   -- what comes of it is the customer's candidate
   pub candidate_from : (d b e : Duals) (j : ℕ) → b ≡ lowered I path d j → (risen : Duals) × IsAscendedApart I path j b risen × IsAscended I path risen e → IsCandidate I path d j e
   candidate_from d b e j is found = (found.0, subst (λ (f : Duals). IsAscendedApart I path j f found.0) is found.1, found.2)
 
   -- duals and arrays of one instance are stored alike
-  pub alike_from : (a : Inside) → HaveSamePrices a.present.duals a.trial.duals → AreTame I a.present.duals → AreTame I a.trial.duals → IsWorkFor I a.present.work → IsWorkFor I a.trial.work → AreAlike a
-  alike_from a same here there work trial_work =
+  pub alike_from : (a : Inside) → AreTame I a.present.duals → AreTame I a.trial.duals → IsWorkFor I a.present.work → IsWorkFor I a.trial.work → AreAlike a
+  alike_from a here there work trial_work =
       record {
-        same_prices = same;
         customers = there.fit.of_instance.customers ∙ sym here.fit.of_instance.customers;
+        sites = there.fit.of_instance.sites ∙ sym here.fit.of_instance.sites;
         slacks = trial_work.slacks ∙ sym work.slacks;
         blockers = trial_work.blockers ∙ sym work.blockers;
       }

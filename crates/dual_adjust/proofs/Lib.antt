@@ -8,4 +8,3 @@ pub mod PlacesOf
 pub mod LanesPaid
 pub mod Greatest
 pub mod Gained
-pub mod Replaced

@@ -6,6 +6,7 @@ use Rattle.location_terms.specs.Bound.{Duals, bound_of}
 use Rattle.location_terms.specs.Fit.{AreTame}
 use Rattle.dual_value.specs.Scales.{IsGreater}
 use Rattle.dual_ascent.specs.Ascent.{IsAscended, IsBlocked}
+use Rattle.dual_ascent.specs.Kept.{Keeps}
 use Rattle.dual_adjust.specs.Slackness.{tight_sites, is_violating}
 use Rattle.dual_adjust.specs.Adjustment.{IsCandidate, Gains}
 use Rattle.dual_adjust.specs.Present.{Present, HasAscended, HaveSamePrices}
@@ -65,7 +66,9 @@ abbrev pub IsRound : Instance → Path → Duals → Duals → Bool → Type 0
 IsRound I path d e true = bound_of I path d <ℤ bound_of I path e
 IsRound I path d e false = (e ≡ d) × (Gains I path d → ⊥)
 
--- other duals of the same prices took the place of the old ones: they have ascended, and their bound is greater than the one given; or the old ones stay
-abbrev pub IsRiseAbove : Instance → Path → Present → Present → ℤ → ℕ → Bool → Type 0
-IsRiseAbove I path old new bound scale true = IsTried I path old new × IsGreater (bound_of I path new.duals) new.duals.q bound scale
-IsRiseAbove I path old new bound scale false = new ≡ old
+-- the ascent of the start took the place of the old duals, and its bound is greater than the one given; or the old ones stay, since it isn't
+abbrev pub IsRiseAbove : Instance → Path → Duals → Present → Present → ℤ → ℕ → Bool → Type 0
+IsRiseAbove I path start old new bound scale true =
+    HasAscended I path new × Keeps I path start new.duals × IsGreater (bound_of I path new.duals) new.duals.q bound scale × IsAscended I path start new.duals
+IsRiseAbove I path start old new bound scale false =
+    (new ≡ old) × ((risen : Duals) × Keeps I path start risen × (IsGreater (bound_of I path risen) risen.q bound scale → ⊥) × IsAscended I path start risen)

@@ -1,9 +1,10 @@
 ghost use Rattle.std.specs.Prelude.{◌≡◌, IsTrue};
 ghost use Rattle.std.specs.List.Sorted.{IsStrictlyIncreasing};
 ghost use Rattle.location_terms.specs.Fit.{AreTame, DualsFit};
+ghost use Rattle.lane_order.specs.Order.{IsOrderOf};
 
 use super::*;
-use dual_value::{Duals, Path, bound, tame};
+use dual_value::{Duals, Path, PreparedBox, bound, tame};
 use instance_store::{CustId, CustRow, Instance, LaneRow, NoMemory, SiteId, SiteRow};
 use lane_order::LaneOrder;
 use location_terms::Decision;
@@ -330,6 +331,51 @@ fn passes_over_unknown(alloc: Global, inst: &Instance) -> Result<bool, NoMemory>
     )
 }
 
+// Whether duals of 0 at scale 3 without prices rise above this bound at scale 2, and these values are
+// present then, at this scale. Before them other duals have ascended, at scale 2 and with prices.
+fn rises_to(
+    alloc: Global,
+    boxed: &PreparedBox<'_>,
+    order: &LaneOrder,
+    bound: i128,
+    rises: bool,
+    q: u32,
+    values: &[i128],
+) -> Result<bool, NoMemory>
+    requires { IsOrderOf order.now boxed.now.instance }
+{
+    let inst = boxed.instance();
+    let present = zeros(alloc, inst, 2, &[1, 0, 1, 0])?;
+    let start = zeros(alloc, inst, 3, &[0, 0, 0, 0])?;
+    if !are_tame(inst, &present) || !are_tame(inst, &start) || bound.unsigned_abs() > 100 {
+        return Ok(false);
+    }
+    let mut trials = Trials::of(alloc, inst, present)?;
+    trials.ascend(boxed, order);
+    let found = trials.rises_from(boxed, order, &start, bound, 2);
+    Ok(found == rises && trials.duals().q() == q && trials.duals().values() == values)
+}
+
+// Whether duals that are copied are those of the start, whatever was present before.
+fn rises_once_copied(
+    alloc: Global,
+    boxed: &PreparedBox<'_>,
+    order: &LaneOrder,
+) -> Result<bool, NoMemory>
+    requires { IsOrderOf order.now boxed.now.instance }
+{
+    let inst = boxed.instance();
+    let present = zeros(alloc, inst, 2, &[1, 0, 1, 0])?;
+    let start = zeros(alloc, inst, 3, &[0, 0, 0, 0])?;
+    if !are_tame(inst, &present) || !are_tame(inst, &start) {
+        return Ok(false);
+    }
+    let mut trials = Trials::of(alloc, inst, present)?;
+    trials.copy_from(&start);
+    trials.ascend(boxed, order);
+    Ok(trials.bound(boxed) == 78 && trials.slacks() == [12, 0, 0, 0].as_slice())
+}
+
 #[test]
 fn adjusts(rt: HostRuntime) -> Result<(), Fail> {
     let inst = shared(rt.alloc())?;
@@ -350,5 +396,20 @@ fn adjusts_at_prices_and_in_boxes(rt: HostRuntime) -> Result<(), Fail> {
     let inst = priced(rt.alloc())?;
     assert!(rt; adjusts_priced(rt.alloc(), &inst)?);
     assert!(rt; adjusts_boxes(rt.alloc(), &inst)?);
+    Ok(())
+}
+
+// The ascent of the start has the bound 78 at scale 3, which is 52 at scale 2.
+#[test]
+fn rises_from_other_prices(rt: HostRuntime) -> Result<(), Fail> {
+    let inst = priced(rt.alloc())?;
+    let order = LaneOrder::of(rt.alloc(), &inst)?;
+    let root = Path::root(rt.alloc());
+    let boxed = PreparedBox::of(rt.alloc(), &inst, &root)?;
+    let before = [9, 7, 6, 11, 0, 11];
+    let after = [12, 6, 15, 18, 6, 21];
+    assert!(rt; rises_to(rt.alloc(), &boxed, &order, 52, false, 2, &before)?);
+    assert!(rt; rises_to(rt.alloc(), &boxed, &order, 51, true, 3, &after)?);
+    assert!(rt; rises_once_copied(rt.alloc(), &boxed, &order)?);
     Ok(())
 }

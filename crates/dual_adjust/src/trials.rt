@@ -1,9 +1,9 @@
 //! The duals and the arrays of an adjustment.
-ghost use Rattle.std.specs.Prelude.{◌≡◌, ◌<◌, ◌≤◌, ◌↔◌, All, IfOk, IsTrue, length, int_lt, unsigned_abs};
+ghost use Rattle.std.specs.Prelude.{◌≡◌, ◌<◌, ◌≤◌, ◌↔◌, IfOk, IsTrue, length, int_lt, unsigned_abs};
 ghost use Rattle.location_terms.specs.Instance.{IsValid};
 ghost use Rattle.location_terms.specs.Bound.{Duals as Prices, bound_of};
 ghost use Rattle.location_terms.specs.Fit.{AreTame};
-ghost use Rattle.location_terms.specs.declared.limits.TheConstants.{MAX_SCALE, MAX_VALUE};
+ghost use Rattle.location_terms.specs.declared.limits.TheConstants.{MAX_SCALE};
 ghost use Rattle.lane_order.specs.Order.{IsOrderOf};
 ghost use Rattle.dual_value.specs.Scales.{IsGreater};
 ghost use Rattle.dual_ascent.specs.Ascent.{IsAscended, IsAscendedApart};
@@ -126,36 +126,37 @@ impl Trials {
         tight(alloc, boxed, &self.present)
     }
 
-    /// Takes over the duals of the customers from others, which are for as many customers. They haven't
+    /// Takes over all numbers of other duals, which are for as many customers and sites. They haven't
     /// ascended then.
-    pub fn copy_values(&mut self, other: &Duals)
-        requires { length other.now.v ≡ length self.old.duals.v }
-        ensures duals { self.new.duals ≡ record self.old.duals { v = other.now.v } }
+    pub fn copy_from(&mut self, other: &Duals)
+        requires customers { length other.now.v ≡ length self.old.duals.v }
+        requires sites { length other.now.u ≡ length self.old.duals.u }
+        ensures duals { self.new.duals ≡ other.now }
         ensures work { self.new.work ≡ self.old.work }
     {
-        self.present.duals.copy_values(other);
+        self.present.duals.copy_from(other);
     }
 
-    /// Lets duals of these values rise, with the prices and the scale of the present ones, in whose
-    /// fraction of a millionth the values are: whether the bound is then greater than `bound` at scale
-    /// `scale`. The duals so found become the present ones only if it is. It takes no memory.
+    /// Lets a copy of `start` rise by the ascent, whatever the scale and the prices of the present duals
+    /// are: whether its bound is then greater than `bound` at scale `scale`. The duals so found become the
+    /// present ones only if it is. It takes no memory.
     pub fn rises_from(
         &mut self,
         boxed: &PreparedBox<'_>,
         order: &LaneOrder,
-        values: &[i64],
+        start: &Duals,
         bound: i128,
         scale: u32,
     ) -> bool
         requires order { IsOrderOf order.now boxed.now.instance }
-        requires start { IsStart boxed.now.instance self.old }
-        requires long { length values.now ≡ length boxed.now.instance.customers }
+        requires present { IsStart boxed.now.instance self.old }
+        requires start { AreTame boxed.now.instance start.now }
         requires small { unsigned_abs bound ≤ MAX_BOUND }
         requires scaled { 1 ≤ scale }
         requires scale { scale ≤ MAX_SCALE }
-        ensures { IsRiseAbove boxed.now.instance boxed.now.path self.old self.new bound scale result }
+        ensures { IsRiseAbove boxed.now.instance boxed.now.path start.now self.old self.new bound scale result }
     {
-        set_values(&mut self.trial.duals, values);
+        self.trial.duals.copy_from(start);
         ascend_in(boxed, order, &mut self.trial.work, &mut self.trial.duals);
         if !is_better(boxed, &self.trial, bound, scale) {
             return false;
@@ -191,7 +192,7 @@ impl Trials {
         ) else {
             return false;
         };
-        self.trial.duals.copy_values(&self.present.duals);
+        self.trial.duals.copy_from(&self.present.duals);
         self.trial.duals.set_v(cust, level);
         rise_again(boxed, order, &mut self.trial, cust);
         if !is_above(boxed, &self.trial, bound) {
@@ -248,25 +249,6 @@ fn is_better(boxed: &PreparedBox<'_>, ascended: &Ascended, bound: i128, scale: u
 {
     let found = bound_from(boxed, &ascended.duals, ascended.work.slacks());
     is_greater(found, ascended.duals.q(), bound, scale)
-}
-
-// Replaces the duals of all customers by these values, which are small enough to be tame.
-fn set_values(duals: &mut Duals, values: &[i64])
-    requires { length values.now ≡ length duals.old.v }
-    ensures kept { duals.new ≡ record duals.old { v = duals.new.v } }
-    ensures long { length duals.new.v ≡ length duals.old.v }
-    ensures small { All (λ v. unsigned_abs v ≤ MAX_VALUE) duals.new.v }
-{
-    for cust in 0..values.len() {
-        duals.set_v(cust, widened(values[cust]));
-    }
-}
-
-fn widened(value: i64) -> i128
-    ensures exact { result ≡ value }
-    ensures small { unsigned_abs result ≤ MAX_VALUE }
-{
-    i128::from(value)
 }
 
 // Lets the duals rise, those of all customers but one first, and then all.

@@ -123,11 +123,15 @@ impl Duals {
         self.v[j] = value;
     }
 
-    /// Takes over the duals of the customers from others, which are for as many customers.
-    pub fn copy_values(&mut self, other: &Duals)
-        requires { length other.now.v ≡ length self.old.v }
-        ensures { self.new ≡ record self.old { v = other.now.v } }
+    /// Takes over all numbers of other duals, which are for as many customers and sites.
+    pub fn copy_from(&mut self, other: &Duals)
+        requires customers { length other.now.v ≡ length self.old.v }
+        requires sites { length other.now.u ≡ length self.old.u }
+        ensures { self.new ≡ other.now }
     {
+        self.q = other.q;
+        self.nu = other.nu;
         self.v.copy_from_slice(&other.v);
+        self.u.copy_from_slice(&other.u);
     }
 }

@@ -472,9 +472,12 @@ fn takes_over(copy: &mut Duals, duals: &Duals, value: i128) -> bool {
     if copy.customers() != duals.customers() || copy.customers() < 2 {
         return false;
     }
+    if copy.sites() != duals.sites() {
+        return false;
+    }
     copy.set_v(1, -9);
-    copy.copy_values(duals);
-    has_second(copy, value)
+    copy.copy_from(duals);
+    has_second(copy, value) && copy.q() == duals.q()
 }
 
 fn copies_duals(alloc: Global) -> bool {

@@ -1,4 +1,4 @@
-use Rattle.std.proofs.Common.{◌≡◌, false, true, sym, subst, ap, ◌∙◌, refl, arith, ◌<ℤ◌}
+use Rattle.std.proofs.Common.{◌≡◌, false, true, sym, subst, ap, ◌∙◌, refl, ◌<ℤ◌}
 use mir.Syntax.{w128}
 use mir.Val.{to_z, of_z}
 use Rattle.std.specs.Prelude.{int_lt}
@@ -6,16 +6,13 @@ use Rattle.std.proofs.lemmas.Bool.{false≢true}
 use Rattle.std.proofs.lemmas.Int.{to_z-of_z}
 use Rattle.location_terms.specs.Bound.{bound_of}
 use Rattle.location_terms.specs.Fit.{AreTame}
-use Rattle.location_terms.specs.declared.limits.TheConstants.{MAX_VALUE}
-use Rattle.dual_value.proofs.Sizes.{kept}
-use Rattle.dual_ascent.specs.Ascent.{with_v}
 use Rattle.dual_ascent.proofs.Tested.{int_lt-less, int_lt-not}
 use Rattle.dual_adjust.specs.Adjustment.{lowered, IsCandidate, Gains}
-use Rattle.dual_adjust.specs.Present.{Present, HasAscended, HaveSamePrices}
+use Rattle.dual_adjust.specs.Present.{Present, HasAscended}
 use Rattle.dual_adjust.specs.Adjusted.{IsTried, IsTrial, HasGained}
 use Rattle.dual_adjust.specs.Stored.{AreAlike}
 use Rattle.dual_adjust.specs.declared.trials.Ascended.{Ascended}
-use Rattle.dual_adjust.proofs.Lowered.{lower_level_small, lowered_is_tame, candidate_keeps}
+use Rattle.dual_adjust.proofs.Lowered.{lowered_is_tame, candidate_keeps}
 use Rattle.dual_adjust.proofs.Gained.{lowered_from, candidate_from, alike_from}
 use Rattle.dual_adjust.proofs.trials.Trials.gains_by.Goals as goal
 
@@ -38,32 +35,22 @@ rise_again-requires-clause-tame c =
     let d = c.self.inside.present.duals in
     let here : Present = record { duals = d; work = c.self.inside.present.work } in
     let risen : HasAscended I path here = subst (HasAscended I path) (sym c.self.view_is) c.requires.risen in
-    let small = lower_level_small I path d j c.requires.valid risen.tame c.requires.customer c.in-Some.level c.in-Some.ensures.1 in
-    let set : c.set_v.new.self ≡ with_v c.copy_values.new.self j c.in-Some.level = rw (kept c.in-Some.level MAX_VALUE small (omega arith)) at c.set_v.ensures in
-    let low : c.set_v.new.self ≡ lowered I path d j = lowered_from I path d c.self.inside.trial.duals c.copy_values.new.self c.set_v.new.self j c.in-Some.level c.self.invariant.same_prices c.in-Some.ensures.1 c.copy_values.ensures set in
+    let low : c.set_v.new.self ≡ lowered I path d j = lowered_from I path d c.copy_from.new.self c.set_v.new.self j c.in-Some.level c.requires.valid risen.tame c.requires.customer c.in-Some.ensures.1 c.copy_from.ensures c.set_v.ensures in
     subst (AreTame I) (sym low) (lowered_is_tame I path d j c.requires.valid risen.tame c.requires.customer)
 
 pub invariant_of-self : goal.invariant_of-self
 invariant_of-self c =
     let I = c.args.boxed.now.instance in
     let path = c.args.boxed.now.path in
-    let j = c.args.cust in
     let d = c.self.inside.present.duals in
     let here : Present = record { duals = d; work = c.self.inside.present.work } in
     let risen : HasAscended I path here = subst (HasAscended I path) (sym c.self.view_is) c.requires.risen in
-    let small = lower_level_small I path d j c.requires.valid risen.tame c.requires.customer c.in-Some.level c.in-Some.ensures.1 in
-    let set : c.set_v.new.self ≡ with_v c.copy_values.new.self j c.in-Some.level = rw (kept c.in-Some.level MAX_VALUE small (omega arith)) at c.set_v.ensures in
-    let low : c.set_v.new.self ≡ lowered I path d j = lowered_from I path d c.self.inside.trial.duals c.copy_values.new.self c.set_v.new.self j c.in-Some.level c.self.invariant.same_prices c.in-Some.ensures.1 c.copy_values.ensures set in
-    let e = c.rise_again.new.lowered.duals in
-    let candidate : IsCandidate I path d j e = candidate_from I path d c.set_v.new.self e j low c.rise_again.ensures.found in
-    let kept_so = candidate_keeps I path d j c.requires.valid risen.tame c.requires.customer e candidate in
-    alike_from I path _ (record { scale = kept_so.0; count_price = kept_so.1; prices = kept_so.2 }) risen.tame c.rise_again.ensures.risen.tame risen.work c.rise_again.ensures.risen.work
+    alike_from I path _ risen.tame c.rise_again.ensures.risen.tame risen.work c.rise_again.ensures.risen.work
 
 pub returns-then-not-is_above-clause-tried : goal.returns-then-not-is_above-clause-tried
 returns-then-not-is_above-clause-tried c =
     let I = c.args.boxed.now.instance in
     let path = c.args.boxed.now.path in
-    let j = c.args.cust in
     let d = c.self.inside.present.duals in
     let here : Present = record { duals = d; work = c.self.inside.present.work } in
     let risen : HasAscended I path here = subst (HasAscended I path) (sym c.self.view_is) c.requires.risen in
@@ -77,12 +64,9 @@ returns-then-not-is_above-clause-trial c =
     let d = c.self.inside.present.duals in
     let here : Present = record { duals = d; work = c.self.inside.present.work } in
     let risen : HasAscended I path here = subst (HasAscended I path) (sym c.self.view_is) c.requires.risen in
-    let small = lower_level_small I path d j c.requires.valid risen.tame c.requires.customer c.in-Some.level c.in-Some.ensures.1 in
-    let set : c.set_v.new.self ≡ with_v c.copy_values.new.self j c.in-Some.level = rw (kept c.in-Some.level MAX_VALUE small (omega arith)) at c.set_v.ensures in
-    let low : c.set_v.new.self ≡ lowered I path d j = lowered_from I path d c.self.inside.trial.duals c.copy_values.new.self c.set_v.new.self j c.in-Some.level c.self.invariant.same_prices c.in-Some.ensures.1 c.copy_values.ensures set in
+    let low : c.set_v.new.self ≡ lowered I path d j = lowered_from I path d c.copy_from.new.self c.set_v.new.self j c.in-Some.level c.requires.valid risen.tame c.requires.customer c.in-Some.ensures.1 c.copy_from.ensures c.set_v.ensures in
     let e = c.rise_again.new.lowered.duals in
     let candidate : IsCandidate I path d j e = candidate_from I path d c.set_v.new.self e j low c.rise_again.ensures.found in
-    let kept_so = candidate_keeps I path d j c.requires.valid risen.tame c.requires.customer e candidate in
     let bits : to_z w128 (of_z w128 c.args.bound) ≡ bound_of I path d = to_z-of_z w128 c.args.bound c.ranges.bound ∙ c.requires.bound ∙ ap (λ (p : Present). bound_of I path p.duals) (sym c.self.view_is) in
     let test : int_lt (bound_of I path d) (bound_of I path e) ≡ false = subst (λ b. int_lt b (bound_of I path e) ≡ false) bits (sym c.is_above.ensures ∙ c.if-not-is_above.true) in
     let trial : IsTrial I path d d j false = (refl, λ violating. (e, candidate, int_lt-not (bound_of I path d) (bound_of I path e) test)) in
@@ -92,20 +76,12 @@ pub invariant_of-self-2 : goal.invariant_of-self-2
 invariant_of-self-2 c =
     let I = c.args.boxed.now.instance in
     let path = c.args.boxed.now.path in
-    let j = c.args.cust in
     let d = c.self.inside.present.duals in
     let here : Present = record { duals = d; work = c.self.inside.present.work } in
     let risen : HasAscended I path here = subst (HasAscended I path) (sym c.self.view_is) c.requires.risen in
-    let small = lower_level_small I path d j c.requires.valid risen.tame c.requires.customer c.in-Some.level c.in-Some.ensures.1 in
-    let set : c.set_v.new.self ≡ with_v c.copy_values.new.self j c.in-Some.level = rw (kept c.in-Some.level MAX_VALUE small (omega arith)) at c.set_v.ensures in
-    let low : c.set_v.new.self ≡ lowered I path d j = lowered_from I path d c.self.inside.trial.duals c.copy_values.new.self c.set_v.new.self j c.in-Some.level c.self.invariant.same_prices c.in-Some.ensures.1 c.copy_values.ensures set in
-    let e = c.rise_again.new.lowered.duals in
-    let candidate : IsCandidate I path d j e = candidate_from I path d c.set_v.new.self e j low c.rise_again.ensures.found in
-    let kept_so = candidate_keeps I path d j c.requires.valid risen.tame c.requires.customer e candidate in
     let P = c.self.inside.present in
     let T = c.rise_again.new.lowered in
-    let back : HaveSamePrices e d = record { scale = sym kept_so.0; count_price = sym kept_so.1; prices = sym kept_so.2 } in
-    let swapped : AreAlike (record { present = T; trial = P }) = alike_from I path (record { present = T; trial = P }) back c.rise_again.ensures.risen.tame risen.tame c.rise_again.ensures.risen.work risen.work in
+    let swapped : AreAlike (record { present = T; trial = P }) = alike_from I path (record { present = T; trial = P }) c.rise_again.ensures.risen.tame risen.tame c.rise_again.ensures.risen.work risen.work in
     subst (λ (x : Ascended). AreAlike (record { present = x; trial = c.swap.new.y })) (sym c.swap.ensures.x_after)
     (subst (λ (y : Ascended). AreAlike (record { present = T; trial = y })) (sym c.swap.ensures.y_after) swapped)
 
@@ -117,9 +93,7 @@ returns-clause-tried c =
     let d = c.self.inside.present.duals in
     let here : Present = record { duals = d; work = c.self.inside.present.work } in
     let risen : HasAscended I path here = subst (HasAscended I path) (sym c.self.view_is) c.requires.risen in
-    let small = lower_level_small I path d j c.requires.valid risen.tame c.requires.customer c.in-Some.level c.in-Some.ensures.1 in
-    let set : c.set_v.new.self ≡ with_v c.copy_values.new.self j c.in-Some.level = rw (kept c.in-Some.level MAX_VALUE small (omega arith)) at c.set_v.ensures in
-    let low : c.set_v.new.self ≡ lowered I path d j = lowered_from I path d c.self.inside.trial.duals c.copy_values.new.self c.set_v.new.self j c.in-Some.level c.self.invariant.same_prices c.in-Some.ensures.1 c.copy_values.ensures set in
+    let low : c.set_v.new.self ≡ lowered I path d j = lowered_from I path d c.copy_from.new.self c.set_v.new.self j c.in-Some.level c.requires.valid risen.tame c.requires.customer c.in-Some.ensures.1 c.copy_from.ensures c.set_v.ensures in
     let e = c.rise_again.new.lowered.duals in
     let candidate : IsCandidate I path d j e = candidate_from I path d c.set_v.new.self e j low c.rise_again.ensures.found in
     let kept_so = candidate_keeps I path d j c.requires.valid risen.tame c.requires.customer e candidate in
@@ -136,12 +110,9 @@ returns-clause-trial c =
     let d = c.self.inside.present.duals in
     let here : Present = record { duals = d; work = c.self.inside.present.work } in
     let risen : HasAscended I path here = subst (HasAscended I path) (sym c.self.view_is) c.requires.risen in
-    let small = lower_level_small I path d j c.requires.valid risen.tame c.requires.customer c.in-Some.level c.in-Some.ensures.1 in
-    let set : c.set_v.new.self ≡ with_v c.copy_values.new.self j c.in-Some.level = rw (kept c.in-Some.level MAX_VALUE small (omega arith)) at c.set_v.ensures in
-    let low : c.set_v.new.self ≡ lowered I path d j = lowered_from I path d c.self.inside.trial.duals c.copy_values.new.self c.set_v.new.self j c.in-Some.level c.self.invariant.same_prices c.in-Some.ensures.1 c.copy_values.ensures set in
+    let low : c.set_v.new.self ≡ lowered I path d j = lowered_from I path d c.copy_from.new.self c.set_v.new.self j c.in-Some.level c.requires.valid risen.tame c.requires.customer c.in-Some.ensures.1 c.copy_from.ensures c.set_v.ensures in
     let e = c.rise_again.new.lowered.duals in
     let candidate : IsCandidate I path d j e = candidate_from I path d c.set_v.new.self e j low c.rise_again.ensures.found in
-    let kept_so = candidate_keeps I path d j c.requires.valid risen.tame c.requires.customer e candidate in
     let bits : to_z w128 (of_z w128 c.args.bound) ≡ bound_of I path d = to_z-of_z w128 c.args.bound c.ranges.bound ∙ c.requires.bound ∙ ap (λ (p : Present). bound_of I path p.duals) (sym c.self.view_is) in
     let test : int_lt (bound_of I path d) (bound_of I path e) ≡ true = subst (λ b. int_lt b (bound_of I path e) ≡ true) bits (sym c.is_above.ensures ∙ c.if-not-is_above.false) in
     let greater : bound_of I path d <ℤ bound_of I path e = int_lt-less (bound_of I path d) (bound_of I path e) test in
