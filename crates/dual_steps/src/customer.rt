@@ -3,29 +3,29 @@ ghost use Rattle.std.specs.Prelude.{◌≡◌, ◌<◌, length};
 
 /// The numbers of a customer, in millionths.
 #[derive(Clone, Copy)]
-pub(crate) struct Customer {
+pub struct Customer {
     /// The dual that is evaluated.
-    pub(crate) value: f64,
+    pub value: f64,
     /// How many lanes it pays: the cheapest ones.
-    pub(crate) paid: usize,
+    pub paid: usize,
     /// The dual of the best evaluation.
-    pub(crate) best: f64,
+    pub best: f64,
     /// By how much the bound rises with the dual: 1 less the number of sites that it pays.
-    pub(crate) slope: f64,
+    pub slope: f64,
     /// The slopes of earlier evaluations, smoothed.
-    pub(crate) smooth: f64,
+    pub smooth: f64,
     /// The direction of a step to a known cost, or a dual that is kept meanwhile.
-    pub(crate) kept: f64,
+    pub kept: f64,
     /// The least dual that makes sense, and the greatest.
-    pub(crate) least: f64,
-    pub(crate) most: f64,
+    pub least: f64,
+    pub most: f64,
     /// The same with the plan that is referred to.
-    pub(crate) low: f64,
-    pub(crate) high: f64,
+    pub low: f64,
+    pub high: f64,
 }
 
 /// A customer whose duals make sense between these two.
-pub(crate) fn customer_between(least: f64, most: f64) -> Customer {
+pub fn customer_between(least: f64, most: f64) -> Customer {
     Customer {
         value: least,
         paid: 0,
@@ -41,7 +41,7 @@ pub(crate) fn customer_between(least: f64, most: f64) -> Customer {
 }
 
 /// Puts a number between two others.
-pub(crate) fn between(x: f64, low: f64, high: f64) -> f64 {
+pub fn between(x: f64, low: f64, high: f64) -> f64 {
     if x < low {
         low
     } else if high < x {
@@ -52,7 +52,7 @@ pub(crate) fn between(x: f64, low: f64, high: f64) -> f64 {
 }
 
 /// Takes the duals that are evaluated as the best.
-pub(crate) fn keep_values(customers: &mut [Customer])
+pub fn keep_values(customers: &mut [Customer])
     ensures { length customers.new ≡ length customers.old }
 {
     for j in 0..customers.len() {
@@ -61,7 +61,7 @@ pub(crate) fn keep_values(customers: &mut [Customer])
 }
 
 /// Goes back to the best duals.
-pub(crate) fn recall_values(customers: &mut [Customer])
+pub fn recall_values(customers: &mut [Customer])
     ensures { length customers.new ≡ length customers.old }
 {
     for j in 0..customers.len() {
@@ -70,7 +70,7 @@ pub(crate) fn recall_values(customers: &mut [Customer])
 }
 
 /// Goes back to the best duals, put between those that the plan suggests.
-pub(crate) fn recall_within(customers: &mut [Customer])
+pub fn recall_within(customers: &mut [Customer])
     ensures { length customers.new ≡ length customers.old }
 {
     for j in 0..customers.len() {
@@ -81,10 +81,10 @@ pub(crate) fn recall_within(customers: &mut [Customer])
 }
 
 /// The least sum of squares of slopes that counts.
-pub(crate) const FLAT: f64 = 0.000001;
+pub const FLAT: f64 = 0.000001;
 
 /// Takes the slopes as the smoothed ones.
-pub(crate) fn restart_smooth(customers: &mut [Customer])
+pub fn restart_smooth(customers: &mut [Customer])
     ensures { length customers.new ≡ length customers.old }
 {
     for j in 0..customers.len() {
@@ -94,13 +94,13 @@ pub(crate) fn restart_smooth(customers: &mut [Customer])
 
 /// Sums of products of slopes and smoothed slopes.
 #[derive(Clone, Copy)]
-pub(crate) struct Products {
-    pub(crate) smooth: f64,
-    pub(crate) mixed: f64,
-    pub(crate) slope: f64,
+pub struct Products {
+    pub smooth: f64,
+    pub mixed: f64,
+    pub slope: f64,
 }
 
-pub(crate) fn slope_products(customers: &[Customer]) -> Products {
+pub fn slope_products(customers: &[Customer]) -> Products {
     let mut smooth = 0.0;
     let mut mixed = 0.0;
     let mut slope = 0.0;
@@ -117,8 +117,19 @@ pub(crate) fn slope_products(customers: &[Customer]) -> Products {
     }
 }
 
+/// The weight of new slopes with which the mix is shortest, within a tenth of the greatest.
+pub fn mixing_weight(sums: Products, most: f64) -> f64 {
+    let apart = sums.smooth - 2.0 * sums.mixed + sums.slope;
+    if apart < FLAT {
+        return most;
+    }
+    ((sums.smooth - sums.mixed) / apart)
+        .max(most / 10.0)
+        .min(most)
+}
+
 /// Steps from the best duals along the smoothed slopes.
-pub(crate) fn step_smoothly(customers: &mut [Customer], stride: f64)
+pub fn step_smoothly(customers: &mut [Customer], stride: f64)
     ensures { length customers.new ≡ length customers.old }
 {
     for j in 0..customers.len() {
@@ -128,7 +139,7 @@ pub(crate) fn step_smoothly(customers: &mut [Customer], stride: f64)
 }
 
 /// Mixes so much of the slopes into the smoothed ones.
-pub(crate) fn smooth_slopes(customers: &mut [Customer], weight: f64)
+pub fn smooth_slopes(customers: &mut [Customer], weight: f64)
     ensures { length customers.new ≡ length customers.old }
 {
     for j in 0..customers.len() {
@@ -139,7 +150,7 @@ pub(crate) fn smooth_slopes(customers: &mut [Customer], weight: f64)
 
 /// Turns the direction towards the slopes, away from what the last step undid. The answer is the sum of
 /// the squares of the new direction.
-pub(crate) fn turn(customers: &mut [Customer]) -> f64
+pub fn turn(customers: &mut [Customer]) -> f64
     ensures { length customers.new ≡ length customers.old }
 {
     let back = back_share(customers);
@@ -169,7 +180,7 @@ fn back_share(customers: &[Customer]) -> f64 {
 }
 
 /// Steps from the duals along the direction.
-pub(crate) fn step_ahead(customers: &mut [Customer], stride: f64)
+pub fn step_ahead(customers: &mut [Customer], stride: f64)
     ensures { length customers.new ≡ length customers.old }
 {
     for j in 0..customers.len() {

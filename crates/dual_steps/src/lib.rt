@@ -4,15 +4,15 @@
 //! believed: of it is proved that it comes, and what its lengths are. Numbers are floats, in millionths.
 #![tactic(auto)]
 
-mod choosing;
+pub mod choosing;
 mod closing;
-mod customer;
+pub mod customer;
 mod payers;
 mod paying;
-mod rounding;
-mod site;
+pub mod rounding;
+pub mod site;
 mod snapping;
-mod start;
+pub mod start;
 mod steps;
 mod units;
 mod volume;

@@ -5,13 +5,13 @@ use dual_value::{PreparedBox, SiteState};
 
 /// What is settled of a site, and what it costs to open it, in millionths.
 #[derive(Clone, Copy)]
-pub(crate) struct Site {
-    pub(crate) state: SiteState,
-    pub(crate) fixed: f64,
+pub struct Site {
+    pub state: SiteState,
+    pub fixed: f64,
 }
 
 /// Takes what the box settles of the sites.
-pub(crate) fn take_states(boxed: &PreparedBox<'_>, sites: &mut [Site])
+pub fn take_states(boxed: &PreparedBox<'_>, sites: &mut [Site])
     requires { length sites.old ≡ length boxed.now.instance.sites }
     ensures { length sites.new ≡ length sites.old }
 {
@@ -21,7 +21,7 @@ pub(crate) fn take_states(boxed: &PreparedBox<'_>, sites: &mut [Site])
 }
 
 /// Whether a plan with these open sites is in the box.
-pub(crate) fn is_within(sites: &[Site], open: &[bool]) -> bool
+pub fn is_within(sites: &[Site], open: &[bool]) -> bool
     requires { length open.now ≡ length sites.now }
 {
     for i in 0..sites.len() {
@@ -37,5 +37,16 @@ fn suits(state: SiteState, open: bool) -> bool {
         SiteState::Free => true,
         SiteState::Opened => open,
         SiteState::Closed => !open,
+    }
+}
+
+/// Mixes so much of what is open now into the shares.
+pub fn smooth_shares(open: &[bool], shares: &mut [f64], weight: f64)
+    requires { length open.now ≡ length shares.old }
+    ensures { length shares.new ≡ length shares.old }
+{
+    for i in 0..shares.len() {
+        let taken = if open[i] { 1.0 } else { 0.0 };
+        shares[i] += weight * (taken - shares[i]);
     }
 }

@@ -11,7 +11,7 @@ use std::alloc::Global;
 use std::num::nearest_u64_to_f64;
 
 /// The sites of the instance, each free. It fails only where memory runs out.
-pub(crate) fn sites_of(alloc: Global, inst: &Instance) -> Result<Vec<Site>, NoMemory>
+pub fn sites_of(alloc: Global, inst: &Instance) -> Result<Vec<Site>, NoMemory>
     ensures { IfOk result (λ sites. length sites.items ≡ length inst.now.sites) }
 {
     let costless = Site {
@@ -33,7 +33,7 @@ fn fill_fixed(inst: &Instance, sites: &mut [Site])
 }
 
 /// The customers of the instance. It fails only where memory runs out.
-pub(crate) fn customers_of(
+pub fn customers_of(
     alloc: Global,
     inst: &Instance,
     order: &LaneOrder,

@@ -6,7 +6,7 @@ ghost use Rattle.lane_order.specs.Order.{IsOrderOf};
 use crate::choosing::{Count, NO_PICK, Pick, choose};
 use crate::customer::{Customer, keep_values, recall_values};
 use crate::paying::{fill_slacks, fill_slopes};
-use crate::rounding::{fill_rounded, take_values};
+use crate::rounding::{fill_rounded, nearest_whole, take_rounded, take_values};
 use crate::site::{Site, take_states};
 use crate::start::{customers_of, sites_of};
 use crate::units::{unit_of_sites, unit_with_lanes};
@@ -33,6 +33,7 @@ pub struct Steps {
     pub(crate) shares: Vec<f64>,
     pub(crate) picks: Vec<Pick>,
     pub(crate) rounded: Vec<i64>,
+    rounded_extra: i64,
     pub(crate) count: Count,
     // The amount of which all costs are multiples; of the sites' costs alone until the lanes' are asked for.
     unit: u64,
@@ -93,6 +94,7 @@ impl Steps {
             shares,
             picks,
             rounded,
+            rounded_extra: 0,
             count,
             unit: unit_of_sites(inst),
             knows_lanes: false,
@@ -172,11 +174,21 @@ impl Steps {
         &self.shares
     }
 
-    /// Rounds the best duals to whole numbers, of which `scale` are a millionth.
-    pub fn round(&mut self, scale: u32)
+    /// Rounds the best duals to whole numbers, of which `scale` are a millionth, and finds the price of the
+    /// count that suits them.
+    pub fn round(&mut self, order: &LaneOrder, scale: u32)
+        requires { Suits self.old order.now }
         ensures { self.new ≡ self.old }
     {
         fill_rounded(&self.customers, scale, &mut self.rounded);
+        take_rounded(&self.rounded, scale, &mut self.customers);
+        self.evaluate(order);
+        self.rounded_extra = nearest_whole(self.extra, scale);
+    }
+
+    /// The price of the count at the rounded duals.
+    pub fn count_price(&self) -> i64 {
+        self.rounded_extra
     }
 
     /// The best duals, as they were rounded last, by place.

@@ -70,7 +70,7 @@ fn rises(
     steps.polyak(&order, cost, 100);
     steps.project(alloc, &order, cost, 10)?;
     steps.snap(&order, cost);
-    steps.round(1);
+    steps.round(&order, 1);
     Ok(
         is_near
             && steps.reaches(cost)

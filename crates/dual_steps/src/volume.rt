@@ -4,8 +4,9 @@ ghost use Rattle.dual_steps.specs.Sizes.{Suits};
 
 use crate::Steps;
 use crate::customer::{
-    FLAT, Products, restart_smooth, slope_products, smooth_slopes, step_smoothly,
+    FLAT, mixing_weight, restart_smooth, slope_products, smooth_slopes, step_smoothly,
 };
+use crate::site::smooth_shares;
 use lane_order::LaneOrder;
 
 // The weight of new slopes at first.
@@ -109,27 +110,5 @@ impl Steps {
             self.weight *= 0.5;
         }
         self.mark = self.best_bound;
-    }
-}
-
-// The weight of new slopes with which the mix is shortest, within a tenth of the greatest.
-fn mixing_weight(sums: Products, most: f64) -> f64 {
-    let apart = sums.smooth - 2.0 * sums.mixed + sums.slope;
-    if apart < FLAT {
-        return most;
-    }
-    ((sums.smooth - sums.mixed) / apart)
-        .max(most / 10.0)
-        .min(most)
-}
-
-// Mixes so much of what is taken now into the shares.
-fn smooth_shares(open: &[bool], shares: &mut [f64], weight: f64)
-    requires { length open.now ≡ length shares.old }
-    ensures { length shares.new ≡ length shares.old }
-{
-    for i in 0..shares.len() {
-        let taken = if open[i] { 1.0 } else { 0.0 };
-        shares[i] += weight * (taken - shares[i]);
     }
 }
