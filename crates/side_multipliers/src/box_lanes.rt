@@ -1,0 +1,161 @@
+//! The lanes that a box allows, in arrays that live on.
+ghost use Rattle.std.specs.Prelude.{◌≡◌, ◌<◌, length, IfOk};
+ghost use Rattle.lane_order.specs.Order.{IsOrderOf};
+
+use crate::payments::Demand;
+use crate::rooms::{Room, fits_beside};
+use dual_value::PreparedBox;
+use instance_store::NoMemory;
+use lane_order::{LaneOrder, PlacedLane};
+use std::alloc::Global;
+
+/// The lanes that a box allows, for each customer from the cheapest on.
+#[derive(Drop)]
+pub(crate) struct BoxLanes {
+    lanes: Vec<PlacedLane>,
+    // By customer, where its lanes end; they begin where those of the customer before end.
+    ends: Vec<usize>,
+}
+
+impl BoxLanes {
+    /// Room for the lanes of any box, with none in it yet. It fails only where memory runs out.
+    pub(crate) fn of(alloc: Global, order: &LaneOrder) -> Result<BoxLanes, NoMemory> {
+        let none = PlacedLane { cost: 0, site: 0 };
+        let lanes = vec![in alloc; none; lane_count(order)]?;
+        let ends = vec![in alloc; 0; order.custs()]?;
+        Ok(BoxLanes { lanes, ends })
+    }
+
+    /// How many lanes there is room for.
+    pub(crate) fn room(&self) -> usize {
+        self.lanes.len()
+    }
+
+    /// Takes the lanes that the box allows.
+    pub(crate) fn enter(&mut self, boxed: &PreparedBox<'_>, order: &LaneOrder)
+        requires { IsOrderOf order.now boxed.now.instance }
+    {
+        fill(boxed, order, &mut self.lanes, &mut self.ends);
+    }
+
+    /// The place of the customer's first lane among all.
+    pub(crate) fn start(&self, cust: usize) -> usize {
+        if cust == 0 {
+            return 0;
+        }
+        match self.ends.get(cust - 1) {
+            None => 0,
+            Some(start) => *start,
+        }
+    }
+
+    /// The customer's lanes.
+    pub(crate) fn of_customer(&self, cust: usize) -> &[PlacedLane] {
+        match self.ends.get(cust) {
+            None => &[],
+            Some(end) => self.lanes.get(self.start(cust)..*end).unwrap_or(&[]),
+        }
+    }
+
+    /// Leaves out the lanes whose site has no room for the customer beside what is loaded, but no customer's
+    /// single lane. Whether there were any.
+    pub(crate) fn keep_fitting(&mut self, demands: &[Demand], rooms: &[Room]) -> bool {
+        let before = self.count();
+        keep_all(&mut self.lanes, &mut self.ends, demands, rooms);
+        self.count() < before
+    }
+
+    fn count(&self) -> usize {
+        match self.ends.last() {
+            None => 0,
+            Some(end) => *end,
+        }
+    }
+}
+
+fn lane_count(order: &LaneOrder) -> usize {
+    let mut count = 0usize;
+    for cust in 0..order.custs() {
+        count = count.saturating_add(order.lanes(cust).len());
+    }
+    count
+}
+
+fn fill(boxed: &PreparedBox<'_>, order: &LaneOrder, lanes: &mut [PlacedLane], ends: &mut [usize])
+    requires { IsOrderOf order.now boxed.now.instance }
+{
+    let custs = boxed.instance().custs();
+    let mut end = 0;
+    for cust in 0..ends.len().min(custs) {
+        end = put_allowed(boxed, order, cust, lanes, end);
+        ends[cust] = end;
+    }
+}
+
+// Puts the customer's allowed lanes from the place `from` on. The answer is the place behind them.
+fn put_allowed(
+    boxed: &PreparedBox<'_>,
+    order: &LaneOrder,
+    cust: usize,
+    lanes: &mut [PlacedLane],
+    from: usize,
+) -> usize
+    requires order { IsOrderOf order.now boxed.now.instance }
+    requires customer { cust < length boxed.now.instance.customers }
+    ensures { length lanes.new ≡ length lanes.old }
+{
+    let mut end = from;
+    for lane in order.lanes(cust) {
+        if end < lanes.len() && allows(boxed, lane.site as usize, cust) {
+            lanes[end] = *lane;
+            end += 1;
+        }
+    }
+    end
+}
+
+// Whether the box allows the lane from the site to the customer.
+fn allows(boxed: &PreparedBox<'_>, site: usize, cust: usize) -> bool
+    requires site { site < length boxed.now.instance.sites }
+    requires customer { cust < length boxed.now.instance.customers }
+{
+    let inst = boxed.instance();
+    match inst.lane(site, cust) {
+        None => false,
+        Some(_) => boxed.admits(site, cust, inst.demand(cust)),
+    }
+}
+
+fn keep_all(lanes: &mut [PlacedLane], ends: &mut [usize], demands: &[Demand], rooms: &[Room]) {
+    let mut start = 0;
+    let mut to = 0;
+    for j in 0..ends.len().min(demands.len()) {
+        let end = ends[j];
+        to = keep_own(lanes, start, end, to, demands[j].weight, rooms);
+        start = end;
+        ends[j] = to;
+    }
+}
+
+// Moves the lanes between two places that fit to the place `to`. The answer is the place behind them.
+fn keep_own(
+    lanes: &mut [PlacedLane],
+    start: usize,
+    end: usize,
+    to: usize,
+    weight: f64,
+    rooms: &[Room],
+) -> usize
+    ensures { length lanes.new ≡ length lanes.old }
+{
+    let is_single = end == start.saturating_add(1);
+    let mut place = to;
+    for k in start..end.min(lanes.len()) {
+        let lane = lanes[k];
+        if place < lanes.len() && (is_single || fits_beside(rooms, lane.site as usize, weight)) {
+            lanes[place] = lane;
+            place += 1;
+        }
+    }
+    place
+}
