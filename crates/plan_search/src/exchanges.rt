@@ -3,23 +3,19 @@
 //! of one site and the closing of another save together is the sum of what each saves alone and of an extra
 //! amount, to which only lanes count that cost less than a customer's second nearest open site.
 ghost use Rattle.std.specs.Prelude.{◌≡◌, ◌<◌, length};
-ghost use Rattle.lane_order.specs.Order.{IsOrderOf};
 
 use crate::prospects::{Exchange, Look, Nearest, Prospect};
-use dual_value::PreparedBox;
 use lane_order::LaneOrder;
 
 /// Finds the best exchange of each open site whose exchanges are to be looked at anew.
 pub(crate) fn look_anew(
-    boxed: &PreparedBox,
     order: &LaneOrder,
     sites: &mut [Prospect],
     custs: &mut [Nearest],
     step: usize,
 )
-    requires order { IsOrderOf order.now boxed.now.instance }
-    requires sites { length sites.old ≡ length boxed.now.instance.sites }
-    requires custs { length custs.old ≡ length boxed.now.instance.customers }
+    requires sites { length sites.old ≡ length order.now.sites }
+    requires custs { length custs.old ≡ length order.now.lanes }
     ensures sites { length sites.new ≡ length sites.old }
     ensures custs { length custs.new ≡ length custs.old }
 {
@@ -28,7 +24,7 @@ pub(crate) fn look_anew(
     for site in 0..sites.len() {
         if sites[site].is_changed && sites[site].may_leave() {
             let look = Look { step, leaves: site };
-            sites[site].exchange = best_exchange(boxed, order, sites, custs, &look);
+            sites[site].exchange = best_exchange(order, sites, custs, &look);
         }
         sites[site].is_changed = false;
     }
@@ -69,16 +65,14 @@ fn link(sites: &mut [Prospect], custs: &mut [Nearest])
 
 // The best exchange of the site, of those to which its customers count.
 fn best_exchange(
-    boxed: &PreparedBox,
     order: &LaneOrder,
     sites: &mut [Prospect],
     custs: &[Nearest],
     look: &Look,
 ) -> Option<Exchange>
-    requires order { IsOrderOf order.now boxed.now.instance }
-    requires sites { length sites.old ≡ length boxed.now.instance.sites }
-    requires custs { length custs.now ≡ length boxed.now.instance.customers }
-    requires leaves { look.now.leaves < length boxed.now.instance.sites }
+    requires sites { length sites.old ≡ length order.now.sites }
+    requires custs { length custs.now ≡ length order.now.lanes }
+    requires leaves { look.now.leaves < length order.now.sites }
     ensures { length sites.new ≡ length sites.old }
 {
     let mut best = None;
@@ -91,7 +85,7 @@ fn best_exchange(
         if cust >= custs.len() {
             return best;
         }
-        best = best_over(boxed, order, sites, &custs[cust], cust, look, best);
+        best = best_over(order, sites, &custs[cust], cust, look, best);
         next = custs[cust].next;
     }
     best
@@ -100,7 +94,6 @@ fn best_exchange(
 // The best exchange with one more customer of the site that leaves. Extra amounts only grow here, so that
 // each is compared at its greatest.
 fn best_over(
-    boxed: &PreparedBox,
     order: &LaneOrder,
     sites: &mut [Prospect],
     near: &Nearest,
@@ -108,9 +101,8 @@ fn best_over(
     look: &Look,
     before: Option<Exchange>,
 ) -> Option<Exchange>
-    requires order { IsOrderOf order.now boxed.now.instance }
-    requires sites { length sites.old ≡ length boxed.now.instance.sites }
-    requires customer { cust < length boxed.now.instance.customers }
+    requires sites { length sites.old ≡ length order.now.sites }
+    requires customer { cust < length order.now.lanes }
     ensures { length sites.new ≡ length sites.old }
 {
     let mut best = before;

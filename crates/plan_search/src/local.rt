@@ -3,12 +3,12 @@
 ghost use Rattle.std.specs.Prelude.{◌≡◌, length};
 ghost use Rattle.lane_order.specs.Order.{IsOrderOf};
 
-use crate::caps::has_no_caps;
 use crate::changes::{Change, Count, best_change, best_single, open_count};
 use crate::chosen::is_free;
 use crate::exchanges::{look_anew, mark_all};
 use crate::prospects::{Nearest, Prospect};
 use crate::serving::{close, open, serve_all};
+use assignment_search::Assignment;
 use dual_value::PreparedBox;
 use instance_store::{Instance, NoMemory, SiteId};
 use lane_order::LaneOrder;
@@ -23,6 +23,8 @@ const MAX_STEPS: usize = 20_000;
 pub struct LocalSearch {
     sites: Vec<Prospect>,
     custs: Vec<Nearest>,
+    /// Where some site has a capacity.
+    pub(crate) assignment: Assignment,
 }
 
 impl LocalSearch {
@@ -31,12 +33,13 @@ impl LocalSearch {
         Ok(LocalSearch {
             sites: vec![in alloc; Prospect::closed(); inst.sites()]?,
             custs: vec![in alloc; Nearest::none(0); inst.custs()]?,
+            assignment: Assignment::none(alloc),
         })
     }
 
     /// Searches from the set of the free sites that are flagged, by place, and of those that are opened in
-    /// the box. Where some site has a capacity the set stays what it is. It fails only where memory runs
-    /// out.
+    /// the box, as if no site had a capacity and each lane of an open site were allowed. It fails only
+    /// where memory runs out.
     pub(crate) fn search(
         &mut self,
         boxed: &PreparedBox,
@@ -49,14 +52,12 @@ impl LocalSearch {
         self.sites.resize(inst.sites(), Prospect::closed())?;
         self.custs.resize(inst.custs(), Nearest::none(0))?;
         start(boxed, flags, &mut self.sites);
-        if has_no_caps(inst) {
-            serve_all(boxed, order, &mut self.sites, &mut self.custs);
-            improve(boxed, order, &mut self.sites, &mut self.custs);
-        }
+        serve_all(order, &mut self.sites, &mut self.custs);
+        improve(boxed, order, &mut self.sites, &mut self.custs);
         Ok(())
     }
 
-    /// What the set costs to which the last search came, in millionths, where no site has a capacity.
+    /// What the set costs to which the last search came, in millionths.
     pub(crate) fn cost(&self) -> u64 {
         opening_cost(&self.sites).saturating_add(serving_cost(&self.custs))
     }
@@ -100,7 +101,7 @@ fn improve(boxed: &PreparedBox, order: &LaneOrder, sites: &mut [Prospect], custs
         let count = count_of(boxed, sites);
         let mut change = best_single(sites, &count);
         if change.is_none() {
-            look_anew(boxed, order, sites, custs, step);
+            look_anew(order, sites, custs, step);
             change = best_change(sites, &count);
         }
         match change {
@@ -148,7 +149,7 @@ fn make(
     }
     if let Some(site) = change.closes {
         if site < sites.len() {
-            close(boxed, order, sites, custs, site);
+            close(order, sites, custs, site);
         }
     }
 }

@@ -1,15 +1,18 @@
 //! Good plans in a box.
-ghost use Rattle.std.specs.Prelude.{◌≡◌, ◌⊎◌, ◌≤◌, IfOk, IfSome};
-ghost use Rattle.location_terms.specs.Instance.{IsValid};
+ghost use Rattle.std.specs.Prelude.{◌≡◌, ◌⊎◌, ◌<◌, ◌≤◌, length, map, IfOk, IfSome, IsNone, Some};
+ghost use Rattle.location_terms.specs.Instance.{site_at};
 ghost use Rattle.location_terms.specs.Plan.{IsFeasible, cost_of};
 ghost use Rattle.location_terms.specs.Box.{IsInBox};
 ghost use Rattle.lane_order.specs.Order.{IsOrderOf};
 ghost use Rattle.plan_search.specs.InBox.{IsPathOf, HasNoCaps, SettlesSites, IsNoWorse, IsBestIn};
 ghost use Rattle.plan_search.specs.Packed.{packed};
+ghost use Rattle.plan_search.specs.Flags.{flagged};
 
 use crate::caps::has_no_caps;
+use crate::chosen::chosen;
 use crate::local::LocalSearch;
-use crate::packing::pack;
+use crate::packing::{open_sites, pack};
+use assignment_search::assigned_plan;
 use dual_value::{Path, PreparedBox};
 use instance_store::{Instance, NoMemory, SiteId};
 use lane_order::LaneOrder;
@@ -53,10 +56,9 @@ fn best_in(
     ensures packed { IfOk result (λ plan. IsNoWorse boxed.now.instance plan (packed boxed.now.instance boxed.now.path hint.now)) }
     ensures cheapest { HasNoCaps boxed.now.instance → SettlesSites boxed.now.instance boxed.now.path → IfOk result (IsBestIn boxed.now.instance boxed.now.path) }
 {
-    match packed_in(alloc, boxed, order, hint)? {
-        None => Ok(None),
-        Some(plan) => Ok(Some(improved_in(alloc, boxed, order, plan)?)),
-    }
+    let packed = packed_in(alloc, boxed, order, hint)?;
+    let found = found_near(alloc, boxed, order, hint)?;
+    Ok(cheaper(boxed, packed, found))
 }
 
 /// The plan that is packed for the hint in a box that is prepared, with no search behind it: what
@@ -78,43 +80,32 @@ pub fn packed_in(
     Ok(plan)
 }
 
-// A plan in the box that costs at most as much as this one, by a search among the sets of open sites
-// where no site has a capacity. It fails only where memory runs out.
-fn improved_in(
+// A plan in the box that is sought from the sites that packing opens for the hint. It fails only where
+// memory runs out.
+fn found_near(
     alloc: Global,
     boxed: &PreparedBox,
     order: &LaneOrder,
-    plan: Plan,
-) -> Result<Plan, NoMemory>
+    hint: &[SiteId],
+) -> Result<Option<Plan>, NoMemory>
     requires order { IsOrderOf order.now boxed.now.instance }
     requires path { IsPathOf boxed.now.instance boxed.now.path }
-    requires feasible { IsFeasible boxed.now.instance plan }
-    requires in_box { IsInBox plan boxed.now.path }
-    ensures feasible { IfOk result (IsFeasible boxed.now.instance) }
-    ensures in_box { IfOk result (λ better. IsInBox better boxed.now.path) }
-    ensures cost { IfOk result (λ better. cost_of boxed.now.instance better ≤ cost_of boxed.now.instance plan) }
+    ensures feasible { IfOk result (λ plan. IfSome plan (IsFeasible boxed.now.instance)) }
+    ensures in_box { IfOk result (λ plan. IfSome plan (λ P. IsInBox P boxed.now.path)) }
 {
-    if !has_no_caps(boxed.instance()) {
-        return Ok(plan);
-    }
-    let flags = plan_flags(alloc, boxed.instance(), &plan)?;
+    let flags = chosen(alloc, boxed, hint)?;
     let mut work = LocalSearch::of(alloc, boxed.instance())?;
-    work.search(boxed, order, &flags)?;
-    if !costs_more(boxed.instance(), &plan, work.cost()) {
-        return Ok(plan);
-    }
-    let hint = work.open_sites(alloc, boxed.instance())?;
-    match packed_in(alloc, boxed, order, &hint)? {
-        None => Ok(plan),
-        Some(other) => Ok(cheaper(boxed.instance(), plan, other)),
-    }
+    let plan = found(alloc, boxed, order, &mut work, &flags, None)?;
+    Ok(plan)
 }
 
 /// A plan in the box that is sought from a set of open sites: the free sites that are flagged, by place,
-/// and those that are opened in the box. Where no site has a capacity, sites are opened, closed and
-/// exchanged from there while that saves, and no plan is given where the set found costs `limit`
-/// millionths or more. The plan is what is packed for the set. It is for sets of any size: too few or too
-/// many open sites are brought within the instance's count.
+/// and those that are opened in the box. Sites are opened, closed and exchanged from there while that
+/// saves, and under capacities customers are assigned to the open ones. It is for sets of any size: too few
+/// or too many open sites are brought within the instance's count.
+///
+/// With a limit the plan costs less than that many millionths. Without one it costs at most as much as what
+/// is packed for the flagged sites, and none is given only where none is packed.
 ///
 /// It fails only where memory runs out.
 pub fn improved_set(
@@ -123,40 +114,88 @@ pub fn improved_set(
     order: &LaneOrder,
     work: &mut LocalSearch,
     flags: &[bool],
-    limit: u64,
+    limit: Option<u64>,
+) -> Result<Option<Plan>, NoMemory>
+    requires order { IsOrderOf order.now boxed.now.instance }
+    requires path { IsPathOf boxed.now.instance boxed.now.path }
+    requires flags { length flags.now ≡ length boxed.now.instance.sites }
+    ensures feasible { IfOk result (λ plan. IfSome plan (IsFeasible boxed.now.instance)) }
+    ensures in_box { IfOk result (λ plan. IfSome plan (λ P. IsInBox P boxed.now.path)) }
+    ensures limited { IfSome limit (λ most. IfOk result (λ plan. IfSome plan (λ P. cost_of boxed.now.instance P < most))) }
+    ensures packed { let I = boxed.now.instance in let hint = map (λ i. (site_at I i).id) (flagged flags.now) in
+        IsNone limit → IfOk result (λ plan. IsNoWorse I plan (packed I boxed.now.path hint)) }
+{
+    let plan = found(alloc, boxed, order, work, flags, limit)?;
+    match limit {
+        Some(limit) => Ok(below(boxed.instance(), plan, limit)),
+        None => {
+            let hint = open_sites(alloc, boxed.instance(), flags)?;
+            let packed = packed_in(alloc, boxed, order, &hint)?;
+            Ok(cheaper(boxed, packed, plan))
+        }
+    }
+}
+
+// A plan in the box that a search finds from the flagged sites. Where no site has a capacity, none is given
+// where the set found costs as much as the limit.
+fn found(
+    alloc: Global,
+    boxed: &PreparedBox,
+    order: &LaneOrder,
+    work: &mut LocalSearch,
+    flags: &[bool],
+    limit: Option<u64>,
 ) -> Result<Option<Plan>, NoMemory>
     requires order { IsOrderOf order.now boxed.now.instance }
     requires path { IsPathOf boxed.now.instance boxed.now.path }
     ensures feasible { IfOk result (λ plan. IfSome plan (IsFeasible boxed.now.instance)) }
     ensures in_box { IfOk result (λ plan. IfSome plan (λ P. IsInBox P boxed.now.path)) }
 {
+    if !has_no_caps(boxed.instance()) {
+        return assigned_plan(alloc, boxed, &mut work.assignment, flags);
+    }
     work.search(boxed, order, flags)?;
-    if has_no_caps(boxed.instance()) && work.cost() >= limit {
+    if work.cost() >= limit.unwrap_or(u64::MAX) {
         return Ok(None);
     }
     let hint = work.open_sites(alloc, boxed.instance())?;
     packed_in(alloc, boxed, order, &hint)
 }
 
-// The open sites of the plan, by place.
-fn plan_flags(alloc: Global, inst: &Instance, plan: &Plan) -> Result<Vec<bool>, NoMemory> {
-    let mut flags = Vec::with_capacity(alloc, inst.sites())?;
-    for site in 0..inst.sites() {
-        flags.push(plan.opens(inst.site_id(site)))?;
-    }
-    Ok(flags)
-}
-
-// Whether the feasible plan costs more than this.
-fn costs_more(inst: &Instance, plan: &Plan, limit: u64) -> bool
-    requires { IsFeasible inst.now plan.now }
+// The feasible plan, where it costs less than this.
+fn below(inst: &Instance, plan: Option<Plan>, limit: u64) -> Option<Plan>
+    requires { IfSome plan (IsFeasible inst.now) }
+    ensures same { IfSome result (λ P. plan ≡ Some P) }
+    ensures limited { IfSome result (λ P. cost_of inst.now P < limit) }
 {
     let _sites = inst.sites();
-    cost(inst, plan) > limit
+    let plan = plan?;
+    if cost(inst, &plan) < limit {
+        Some(plan)
+    } else {
+        None
+    }
+}
+
+// The one of two plans of the box that costs less, and the first where they cost the same.
+fn cheaper(boxed: &PreparedBox, plan: Option<Plan>, other: Option<Plan>) -> Option<Plan>
+    requires plan_feasible { IfSome plan (IsFeasible boxed.now.instance) }
+    requires plan_in_box { IfSome plan (λ P. IsInBox P boxed.now.path) }
+    requires other_feasible { IfSome other (IsFeasible boxed.now.instance) }
+    requires other_in_box { IfSome other (λ P. IsInBox P boxed.now.path) }
+    ensures feasible { IfSome result (IsFeasible boxed.now.instance) }
+    ensures in_box { IfSome result (λ P. IsInBox P boxed.now.path) }
+    ensures no_worse { IsNoWorse boxed.now.instance result plan }
+{
+    match (plan, other) {
+        (None, other) => other,
+        (Some(plan), None) => Some(plan),
+        (Some(plan), Some(other)) => Some(cheaper_plan(boxed.instance(), plan, other)),
+    }
 }
 
 // The one of two feasible plans that costs less, and the first where they cost the same.
-fn cheaper(inst: &Instance, plan: Plan, other: Plan) -> Plan
+fn cheaper_plan(inst: &Instance, plan: Plan, other: Plan) -> Plan
     requires plan { IsFeasible inst.now plan }
     requires other { IsFeasible inst.now other }
     ensures either { (result ≡ plan) ⊎ (result ≡ other) }

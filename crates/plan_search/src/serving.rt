@@ -11,15 +11,9 @@ use location_terms::MAX_AMOUNT;
 const UNSERVED: u64 = MAX_AMOUNT + 1;
 
 /// Finds what each customer counts for where these sites are open.
-pub(crate) fn serve_all(
-    boxed: &PreparedBox,
-    order: &LaneOrder,
-    sites: &mut [Prospect],
-    custs: &mut [Nearest],
-)
-    requires order { IsOrderOf order.now boxed.now.instance }
-    requires sites { length sites.old ≡ length boxed.now.instance.sites }
-    requires custs { length custs.old ≡ length boxed.now.instance.customers }
+pub(crate) fn serve_all(order: &LaneOrder, sites: &mut [Prospect], custs: &mut [Nearest])
+    requires sites { length sites.old ≡ length order.now.sites }
+    requires custs { length custs.old ≡ length order.now.lanes }
     ensures sites { length sites.new ≡ length sites.old }
     ensures custs { length custs.new ≡ length custs.old }
 {
@@ -56,17 +50,10 @@ pub(crate) fn open(
 }
 
 /// Closes the site at place `site`.
-pub(crate) fn close(
-    boxed: &PreparedBox,
-    order: &LaneOrder,
-    sites: &mut [Prospect],
-    custs: &mut [Nearest],
-    site: usize,
-)
-    requires order { IsOrderOf order.now boxed.now.instance }
-    requires sites { length sites.old ≡ length boxed.now.instance.sites }
-    requires custs { length custs.old ≡ length boxed.now.instance.customers }
-    requires site { site < length boxed.now.instance.sites }
+pub(crate) fn close(order: &LaneOrder, sites: &mut [Prospect], custs: &mut [Nearest], site: usize)
+    requires sites { length sites.old ≡ length order.now.sites }
+    requires custs { length custs.old ≡ length order.now.lanes }
+    requires site { site < length order.now.sites }
     ensures sites { length sites.new ≡ length sites.old }
     ensures custs { length custs.new ≡ length custs.old }
 {
@@ -79,7 +66,7 @@ pub(crate) fn close(
     }
 }
 
-// The cost of the lane from the site to the customer, where it is below this and the box admits it.
+// The cost of the lane from the site to the customer, where it is below this.
 fn cost_below(boxed: &PreparedBox, site: usize, cust: usize, limit: u64) -> Option<u64>
     requires site { site < length boxed.now.instance.sites }
     requires customer { cust < length boxed.now.instance.customers }

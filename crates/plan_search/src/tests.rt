@@ -78,9 +78,9 @@ fn is_plan(plan: &Plan, sites: &[u32], from: &[u32]) -> bool {
         && (0..from.len()).all(|k| plan.serve(k).1.number() == from[k])
 }
 
-// Three places on a road, 4 and 7 apart, with a site and a customer each. At least one site is to be open.
-fn road(alloc: Global, hi: u32, fixed: u64) -> Result<Instance, NoMemory>
-    requires count { (1 ≤ hi) × (hi ≤ 3) }
+// Three places on a road, 4 and 7 apart, with a site and a customer each, and from `lo` to `hi` open sites.
+fn road(alloc: Global, lo: u32, hi: u32, fixed: u64) -> Result<Instance, NoMemory>
+    requires count { (lo ≤ hi) × (hi ≤ 3) }
     requires fixed { fixed ≤ MAX_AMOUNT }
 {
     let left = LaneRow::from_slice(alloc, &[Some(0), Some(4_000_000), Some(11_000_000)])?;
@@ -120,7 +120,7 @@ fn road(alloc: Global, hi: u32, fixed: u64) -> Result<Instance, NoMemory>
             demand: 0
         },
     ]?;
-    Instance::from_parts(alloc, 1, hi, 4, 4, custs, sites)
+    Instance::from_parts(alloc, lo, hi, 4, 4, custs, sites)
 }
 
 // What is seen in the box of these steps for this hint, where the steps name sites and customers of
@@ -156,8 +156,41 @@ fn is_seen(
     }
 }
 
-fn is_none_seen(alloc: Global, inst: &Instance, steps: &[Decision], hint: &[u32]) -> bool {
-    match seen(alloc, inst, steps, hint) {
+// What is packed in the box of these steps for this hint, where the steps name sites and customers of the
+// instance.
+fn packed(
+    alloc: Global,
+    inst: &Instance,
+    steps: &[Decision],
+    hint: &[u32],
+) -> Result<Option<Option<Plan>>, NoMemory> {
+    let order = LaneOrder::of(alloc, inst)?;
+    let path = path(alloc, steps)?;
+    let hint = ids(alloc, hint)?;
+    if !is_path_of(inst, &path) {
+        return Ok(None);
+    }
+    let boxed = PreparedBox::of(alloc, inst, &path)?;
+    let plan = packed_in(alloc, &boxed, &order, &hint)?;
+    Ok(Some(plan))
+}
+
+fn is_packed(
+    alloc: Global,
+    inst: &Instance,
+    steps: &[Decision],
+    hint: &[u32],
+    sites: &[u32],
+    from: &[u32],
+) -> bool {
+    match packed(alloc, inst, steps, hint) {
+        Ok(Some(Some(plan))) => is_plan(&plan, sites, from),
+        _ => false,
+    }
+}
+
+fn is_none_packed(alloc: Global, inst: &Instance, steps: &[Decision], hint: &[u32]) -> bool {
+    match packed(alloc, inst, steps, hint) {
         Ok(Some(None)) => true,
         _ => false,
     }
@@ -170,11 +203,11 @@ fn sought(
     inst: &Instance,
     steps: &[Decision],
     flags: &[bool],
-    limit: u64,
+    limit: Option<u64>,
 ) -> Result<Option<Option<Plan>>, NoMemory> {
     let order = LaneOrder::of(alloc, inst)?;
     let path = path(alloc, steps)?;
-    if !is_path_of(inst, &path) {
+    if !is_path_of(inst, &path) || flags.len() != inst.sites() {
         return Ok(None);
     }
     let boxed = PreparedBox::of(alloc, inst, &path)?;
@@ -192,14 +225,14 @@ fn is_sought(
     sites: &[u32],
     from: &[u32],
 ) -> bool {
-    match sought(alloc, inst, steps, flags, u64::MAX) {
+    match sought(alloc, inst, steps, flags, None) {
         Ok(Some(Some(plan))) => is_plan(&plan, sites, from),
         _ => false,
     }
 }
 
-fn is_none_below(alloc: Global, inst: &Instance, limit: u64) -> bool {
-    match sought(alloc, inst, &[], &[], limit) {
+fn is_none_below(alloc: Global, inst: &Instance, flags: &[bool], limit: u64) -> bool {
+    match sought(alloc, inst, &[], flags, Some(limit)) {
         Ok(Some(None)) => true,
         _ => false,
     }
@@ -209,10 +242,10 @@ fn is_none_below(alloc: Global, inst: &Instance, limit: u64) -> bool {
 fn packs_by_falling_demand(rt: HostRuntime) -> Result<(), Fail> {
     let alloc = rt.alloc();
     let inst = shelves(alloc)?;
-    assert!(rt; is_seen(alloc, &inst, &[], &[1, 2], &[1, 2], &[1, 2, 1]));
-    assert!(rt; is_none_seen(alloc, &inst, &[], &[]));
-    assert!(rt; is_seen(alloc, &inst, &[], &[1, 2, 3], &[1, 2], &[1, 2, 1]));
-    assert!(rt; is_none_seen(alloc, &inst, &[], &[1, 3]));
+    assert!(rt; is_packed(alloc, &inst, &[], &[1, 2], &[1, 2], &[1, 2, 1]));
+    assert!(rt; is_none_packed(alloc, &inst, &[], &[]));
+    assert!(rt; is_packed(alloc, &inst, &[], &[1, 2, 3], &[1, 2], &[1, 2, 1]));
+    assert!(rt; is_none_packed(alloc, &inst, &[], &[1, 3]));
     Ok(())
 }
 
@@ -223,10 +256,10 @@ fn keeps_to_the_box(rt: HostRuntime) -> Result<(), Fail> {
     let site = SiteId::new(1);
     let other = SiteId::new(2);
     let cust = CustId::new(1);
-    assert!(rt; is_none_seen(alloc, &inst, &[Decision::Closed(site)], &[1, 2]));
-    assert!(rt; is_none_seen(alloc, &inst, &[Decision::Opened(SiteId::new(3))], &[1, 2]));
+    assert!(rt; is_none_packed(alloc, &inst, &[Decision::Closed(site)], &[1, 2]));
+    assert!(rt; is_none_packed(alloc, &inst, &[Decision::Opened(SiteId::new(3))], &[1, 2]));
     assert!(rt;
-        is_seen(
+        is_packed(
             alloc,
             &inst,
             &[Decision::No(site, cust)],
@@ -236,7 +269,7 @@ fn keeps_to_the_box(rt: HostRuntime) -> Result<(), Fail> {
         )
     );
     assert!(rt;
-        is_seen(
+        is_packed(
             alloc,
             &inst,
             &[Decision::Yes(other, cust)],
@@ -246,7 +279,7 @@ fn keeps_to_the_box(rt: HostRuntime) -> Result<(), Fail> {
         )
     );
     assert!(rt;
-        is_none_seen(
+        is_none_packed(
             alloc,
             &inst,
             &[Decision::Opened(other), Decision::Closed(other)],
@@ -269,16 +302,16 @@ fn settled(alloc: Global, site: usize, status: SiteStatus) -> Result<Instance, N
 fn keeps_to_statuses(rt: HostRuntime) -> Result<(), Fail> {
     let alloc = rt.alloc();
     let inst = settled(alloc, 1, SiteStatus::MustOpen)?;
-    assert!(rt; is_seen(alloc, &inst, &[], &[1], &[1, 2], &[1, 2, 1]));
+    assert!(rt; is_packed(alloc, &inst, &[], &[1], &[1, 2], &[1, 2, 1]));
     let inst = settled(alloc, 0, SiteStatus::MustClose)?;
-    assert!(rt; is_none_seen(alloc, &inst, &[], &[1, 2]));
+    assert!(rt; is_none_packed(alloc, &inst, &[], &[1, 2]));
     Ok(())
 }
 
 #[test]
 fn exchanges_the_site_that_is_open(rt: HostRuntime) -> Result<(), Fail> {
     let alloc = rt.alloc();
-    let inst = road(alloc, 1, 0)?;
+    let inst = road(alloc, 1, 1, 0)?;
     assert!(rt; is_seen(alloc, &inst, &[], &[], &[2], &[2, 2, 2]));
     Ok(())
 }
@@ -287,13 +320,13 @@ fn exchanges_the_site_that_is_open(rt: HostRuntime) -> Result<(), Fail> {
 #[test]
 fn exchanges_where_no_single_change_saves(rt: HostRuntime) -> Result<(), Fail> {
     let alloc = rt.alloc();
-    let inst = road(alloc, 3, 20_000_000)?;
+    let inst = road(alloc, 1, 3, 20_000_000)?;
     assert!(rt; has_no_caps(&inst));
     assert!(rt; is_sought(alloc, &inst, &[], &[true, false, false], &[2], &[2, 2, 2]));
     assert!(rt; is_sought(alloc, &inst, &[], &[false, false, true], &[2], &[2, 2, 2]));
     assert!(rt; is_sought(alloc, &inst, &[], &[true, true, true], &[2], &[2, 2, 2]));
-    assert!(rt; is_sought(alloc, &inst, &[], &[], &[2], &[2, 2, 2]));
-    assert!(rt; is_none_below(alloc, &inst, 20_000_000));
+    assert!(rt; is_sought(alloc, &inst, &[], &[false, false, false], &[2], &[2, 2, 2]));
+    assert!(rt; is_none_below(alloc, &inst, &[false, false, false], 20_000_000));
     let site = SiteId::new(2);
     assert!(rt;
         is_sought(
@@ -308,11 +341,109 @@ fn exchanges_where_no_single_change_saves(rt: HostRuntime) -> Result<(), Fail> {
     Ok(())
 }
 
+// A set of another size comes to two sites by what they save, where packing would go by their ids.
 #[test]
-fn packs_a_set_as_it_is_where_there_are_capacities(rt: HostRuntime) -> Result<(), Fail> {
+fn brings_a_set_to_the_count_by_what_it_saves(rt: HostRuntime) -> Result<(), Fail> {
     let alloc = rt.alloc();
-    let inst = shelves(alloc)?;
+    let inst = road(alloc, 2, 2, 0)?;
+    assert!(rt;
+        is_sought(
+            alloc,
+            &inst,
+            &[],
+            &[false, false, false],
+            &[2, 3],
+            &[2, 2, 3]
+        )
+    );
+    assert!(rt; is_sought(alloc, &inst, &[], &[true, true, true], &[2, 3], &[2, 2, 3]));
+    Ok(())
+}
+
+// Two sites that hold 6 units each, and three customers with demands of 4, 3 and 3 units.
+fn tight(alloc: Global) -> Result<Instance, NoMemory> {
+    let near = LaneRow::from_slice(alloc, &[Some(1_000_000), Some(0), Some(0)])?;
+    let far = LaneRow::from_slice(alloc, &[Some(2_000_000), Some(9_000_000), Some(9_000_000)])?;
+    let sites = vec![in alloc;
+        SiteRow {
+            id: SiteId::new(1),
+            fixed: 0,
+            cap: Some(6_000_000),
+            lanes: near
+        },
+        SiteRow {
+            id: SiteId::new(2),
+            fixed: 0,
+            cap: Some(6_000_000),
+            lanes: far
+        },
+    ]?;
+    let custs = vec![in alloc;
+        CustRow {
+            id: CustId::new(1),
+            demand: 4_000_000
+        },
+        CustRow {
+            id: CustId::new(2),
+            demand: 3_000_000
+        },
+        CustRow {
+            id: CustId::new(3),
+            demand: 3_000_000
+        },
+    ]?;
+    Instance::from_parts(alloc, 0, 2, 3, 4, custs, sites)
+}
+
+#[test]
+fn finds_what_packing_does_not(rt: HostRuntime) -> Result<(), Fail> {
+    let alloc = rt.alloc();
+    let inst = tight(alloc)?;
     assert!(rt; !has_no_caps(&inst));
-    assert!(rt; is_sought(alloc, &inst, &[], &[true, true, false], &[1, 2], &[1, 2, 1]));
+    assert!(rt; is_packed(alloc, &inst, &[], &[1, 2], &[1, 2], &[1, 2, 2]));
+    assert!(rt; is_seen(alloc, &inst, &[], &[1, 2], &[1, 2], &[2, 1, 1]));
+    assert!(rt; is_none_packed(alloc, &inst, &[], &[1]));
+    assert!(rt; is_seen(alloc, &inst, &[], &[1], &[1, 2], &[2, 1, 1]));
+    assert!(rt; is_sought(alloc, &inst, &[], &[false, false], &[1, 2], &[2, 1, 1]));
+    Ok(())
+}
+
+// Two sites that hold 10 units each, and two customers with demands of 6 units.
+fn warehouses(alloc: Global) -> Result<Instance, NoMemory> {
+    let far = LaneRow::from_slice(alloc, &[Some(6_739_725_000), Some(3_000_000)])?;
+    let near = LaneRow::from_slice(alloc, &[Some(1_250_000), Some(4_000_000)])?;
+    let sites = vec![in alloc;
+        SiteRow {
+            id: SiteId::new(1),
+            fixed: 7_500_000_000,
+            cap: Some(10_000_000),
+            lanes: far
+        },
+        SiteRow {
+            id: SiteId::new(2),
+            fixed: 500_000,
+            cap: Some(10_000_000),
+            lanes: near
+        },
+    ]?;
+    let custs = vec![in alloc;
+        CustRow {
+            id: CustId::new(1),
+            demand: 6_000_000
+        },
+        CustRow {
+            id: CustId::new(2),
+            demand: 6_000_000
+        },
+    ]?;
+    Instance::from_parts(alloc, 0, 2, 3, 3, custs, sites)
+}
+
+#[test]
+fn serves_two_warehouses(rt: HostRuntime) -> Result<(), Fail> {
+    let alloc = rt.alloc();
+    let inst = warehouses(alloc)?;
+    assert!(rt; is_seen(alloc, &inst, &[], &[1, 2], &[1, 2], &[2, 1]));
+    assert!(rt; is_none_below(alloc, &inst, &[true, true], 7_504_750_000));
     Ok(())
 }
