@@ -1,4 +1,4 @@
--- Without capacities a search ends with a budget of 2 ^ (sites + 1) nodes for each leaf that doesn't close at its start.
+-- A search ends with a budget of 2 ^ (decisions + 1) nodes for each leaf that doesn't close at its start.
 use Rattle.std.proofs.Common.{◌≡◌, ℕ, zero, suc, ◌+◌, ◌*◌, ◌^◌, ◌≤◌, Bool, true, false, List, [], ◌∷◌, ◌++◌, length, length-append, Option, refl, sym, ap, subst, ◌∙◌, inl, inr, arith}
 use Rattle.std.specs.Prelude.{IsTrue, ◌↔◌, IfSome, not, filter, slice_get, All, Contains}
 use Rattle.std.proofs.lemmas.Bool.{both_ways}
@@ -10,9 +10,8 @@ use Rattle.location_terms.specs.Box.{Path}
 use Rattle.location_terms.specs.Bound.{Duals, bound_of}
 use Rattle.location_terms.specs.Fit.{Closes}
 use Rattle.location_terms.specs.Tree.{Node, Leaf, OnSite, OnLane, Tree, leaves_below, leaves_of, size_of, nodes_of}
-use Rattle.plan_search.specs.InBox.{HasNoCaps}
 use Rattle.tree_search.specs.Grown.{IsGrownBelow, IsGrownFrom}
-use Rattle.tree_search.specs.Answer.{cost_in, AreHeld, IsAnswerTo, IsBracketCause, IsDecided}
+use Rattle.tree_search.specs.Answer.{cost_in, most_decisions, AreHeld, IsAnswerTo, IsBracketCause, IsDecided}
 use Rattle.tree_search.specs.declared.answer.Answer.{Answer}
 use Rattle.tree_search.specs.declared.answer.Answer.TheVariants.{Optimal, Infeasible, Bracket}
 use Rattle.tree_search.proofs.Closer.{closes_no_worse}
@@ -60,9 +59,9 @@ record Grows (room : ℕ) (old new : Node) (opened : ℕ) : Type 0 where
   sized : size_of new + 2 * opened ≤ size_of old + opened * room
   same : opened ≡ 0 → new ≡ old
 
-module _ (I : Instance) (no_caps : HasNoCaps I) (target : Option ℕ) where
+module _ (I : Instance) (target : Option ℕ) where
   abbrev room : ℕ
-  room = 2 ^ (length I.sites + 1)
+  room = 2 ^ (most_decisions I + 1)
 
   leaf_grows : (d : Duals) (new : Node) (path : Path) (held : List Bool) → Tells I target ((path, d) ∷ []) held → IsGrownBelow I target path (Leaf d) new → Grows room (Leaf d) new (open_leaves held)
   leaf_grows d new path [] tells grown = absurd tells
@@ -70,7 +69,7 @@ module _ (I : Instance) (no_caps : HasNoCaps I) (target : Option ℕ) where
   leaf_grows d new path (true ∷ []) tells (inl stays) = record { sized = omega (arith, ap size_of stays.1); same = λ none. stays.1 }
   leaf_grows d new path (true ∷ []) tells (inr worked) = absurd (worked.0 (tells.0.0 refl))
   leaf_grows d new path (false ∷ []) tells (inl stays) = absurd (both_ways false refl (tells.0.1 stays.0))
-  leaf_grows d new path (false ∷ []) tells (inr worked) = record { sized = omega (arith, made_within I no_caps target path d new path worked.1); same = λ none. absurd (omega (arith, none)) }
+  leaf_grows d new path (false ∷ []) tells (inr worked) = record { sized = omega (arith, made_within I target path d new path worked.1); same = λ none. absurd (omega (arith, none)) }
 
   split_grows : (N : Node → Node → Node) (a b a_now b_now : Node) → ((x y : Node) → size_of (N x y) ≡ 1 + size_of x + size_of y) → (held first second : List Bool) → held ≡ first ++ second
       → Grows room a a_now (open_leaves first) → Grows room b b_now (open_leaves second) → Grows room (N a b) (N a_now b_now) (open_leaves held)
@@ -99,13 +98,13 @@ module _ (I : Instance) (no_caps : HasNoCaps I) (target : Option ℕ) where
   grows (OnLane s c a b) (Leaf d) path held tells grown = absurd grown
   grows (OnLane s c a b) (OnSite s_now a_now b_now) path held tells grown = absurd grown
 
-module _ (I : Instance) (no_caps : HasNoCaps I) (old : Tree) where
-  grown : (target : Option ℕ) (new : Tree) (held : List Bool) → AreHeld I old target held → IsGrownFrom I target old new → Grows (2 ^ (length I.sites + 1)) old.root new.root (open_leaves held)
-  grown target new held tells from = grows I no_caps target old.root new.root [] held (told I target (leaves_of old) held tells.len tells.each) from.root
+module _ (I : Instance) (old : Tree) where
+  grown : (target : Option ℕ) (new : Tree) (held : List Bool) → AreHeld I old target held → IsGrownFrom I target old new → Grows (2 ^ (most_decisions I + 1)) old.root new.root (open_leaves held)
+  grown target new held tells from = grows I target old.root new.root [] held (told I target (leaves_of old) held tells.len tells.each) from.root
 
-  -- a tree that grew has less than 2 ^ (sites + 1) more nodes for each leaf that didn't close
+  -- a tree that grew has less than 2 ^ (decisions + 1) more nodes for each leaf that didn't close
   pub grown_within : (target : Option ℕ) (new : Tree) (held : List Bool) → AreHeld I old target held → IsGrownFrom I target old new
-      → nodes_of new + 2 * length (filter not held) ≤ nodes_of old + length (filter not held) * 2 ^ (length I.sites + 1)
+      → nodes_of new + 2 * length (filter not held) ≤ nodes_of old + length (filter not held) * 2 ^ (most_decisions I + 1)
   grown_within target new held tells from = (grown target new held tells from).sized
 
   module _ (handed : Option Plan) (budget : ℕ) (held : List Bool) (tells : AreHeld I old (cost_in I handed) held) (low : ℕ) (plan : Option Plan) (tree : Tree) (made : ℕ) (answer : IsAnswerTo I old handed budget (Bracket low plan tree made)) where
@@ -119,13 +118,13 @@ module _ (I : Instance) (no_caps : HasNoCaps I) (old : Tree) where
         let closes : Closes I spent.unfinished.path spent.unfinished.duals (cost_in I handed) = All-contains (λ (l : Path × Duals). Closes I l.0 l.1 (cost_in I handed)) (leaves_below [] old.root) (spent.unfinished.path, spent.unfinished.duals) closed here in
         spent.unfinished.unclosed (record { fit = closes.fit; closed = closes_no_worse I (bound_of I spent.unfinished.path spent.unfinished.duals) spent.unfinished.duals.q plan handed answer.kept closes.closed })
 
-    no_bracket : (opened : ℕ) → opened ≡ open_leaves held → opened * 2 ^ (length I.sites + 1) ≤ budget → ⊥
+    no_bracket : (opened : ℕ) → opened ≡ open_leaves held → opened * 2 ^ (most_decisions I + 1) ≤ budget → ⊥
     no_bracket zero is enough = none_open (sym is)
     no_bracket (suc k) is enough =
-        let sized : nodes_of tree + 2 * suc k ≤ nodes_of old + suc k * 2 ^ (length I.sites + 1) = subst (λ n. nodes_of tree + 2 * n ≤ nodes_of old + n * 2 ^ (length I.sites + 1)) (sym is) (grown_within (cost_in I handed) tree held tells answer.grown) in
+        let sized : nodes_of tree + 2 * suc k ≤ nodes_of old + suc k * 2 ^ (most_decisions I + 1) = subst (λ n. nodes_of tree + 2 * n ≤ nodes_of old + n * 2 ^ (most_decisions I + 1)) (sym is) (grown_within (cost_in I handed) tree held tells answer.grown) in
         omega (arith, sized, enough, answer.made, answer.cause.spent)
 
-  pub decided : (handed : Option Plan) (budget : ℕ) (held : List Bool) (a : Answer) → AreHeld I old (cost_in I handed) held → IsAnswerTo I old handed budget a → length (filter not held) * 2 ^ (length I.sites + 1) ≤ budget → IsDecided a
+  pub decided : (handed : Option Plan) (budget : ℕ) (held : List Bool) (a : Answer) → AreHeld I old (cost_in I handed) held → IsAnswerTo I old handed budget a → length (filter not held) * 2 ^ (most_decisions I + 1) ≤ budget → IsDecided a
   decided handed budget held (Optimal plan cost tree made) tells answer enough = tt
   decided handed budget held (Infeasible tree made) tells answer enough = tt
   decided handed budget held (Bracket low plan tree made) tells answer enough = no_bracket handed budget held tells low plan tree made answer (open_leaves held) refl enough

@@ -6,11 +6,10 @@ use Rattle.location_terms.specs.Box.{Path}
 use Rattle.dual_value.specs.Prepared.{Prepared}
 use Rattle.lane_order.specs.Order.{Order, IsOrderOf}
 use Rattle.dual_steps.specs.Sizes.{Sizes, sizes_of}
-use Rattle.plan_search.specs.InBox.{HasNoCaps}
 use Rattle.tree_search.specs.Made.{IsMadeScale}
-use Rattle.tree_search.specs.Making.{Making, Makes, StaysMaking}
+use Rattle.tree_search.specs.Making.{Making, IsMakerFor, Makes, StaysMaking}
 use Rattle.tree_search.specs.Best.{Best, Improves}
-use Rattle.tree_search.specs.Searching.{Searching, IsWorkable, IsSearch, IsAt, GoesOn}
+use Rattle.tree_search.specs.Searching.{Searching, IsSearch, IsAt, GoesOn}
 use Rattle.location_terms.specs.Bound.{bound_of}
 use Rattle.location_terms.specs.Fit.{BoundCloses}
 use Rattle.tree_search.specs.Answer.{cost_in}
@@ -89,14 +88,11 @@ module _ (I : Instance) (s : Searching) (same : s.best.instance ≡ I) (order : 
   pub order_in : IsOrderOf order I
   order_in = subst (IsOrderOf order) instance_in has.order
 
-  pub no_caps_in : HasNoCaps I
-  no_caps_in = subst HasNoCaps instance_in has.workable.no_caps
-
   pub helpers_in : helpers ≡ sizes_of I
   helpers_in = has.sizes ∙ ap sizes_of instance_in
 
-  pub leaf_in : leaf.sizes ≡ sizes_of I
-  leaf_in = has.leaf_sizes ∙ ap sizes_of instance_in
+  pub maker_in : IsMakerFor I leaf
+  maker_in = subst (λ (J : Instance). IsMakerFor J leaf) instance_in has.maker
 
 -- The same of the box at work.
 module _ (b : Prepared) (s : Searching) (at : IsAt b s) (best : Best) (leaf : Making) (is : (let t : Searching = record { best = best; leaf = leaf } in t) ≡ s) where
@@ -117,7 +113,6 @@ module _ (b : Prepared) (s : Searching) (at : IsAt b s) (best : Best) (leaf : Ma
 pub search_still : (order : Order) (best best' : Best) (leaf : Making) (helpers : Sizes) → IsSearch order best leaf helpers → best'.instance ≡ best.instance → IsSearch order best' leaf helpers
 search_still order best best' leaf helpers has same = record {
   order = subst (IsOrderOf order) (sym same) has.order;
-  workable = subst IsWorkable (sym same) has.workable;
-  leaf_sizes = has.leaf_sizes ∙ ap sizes_of (sym same);
+  maker = subst (λ (I : Instance). IsMakerFor I leaf) (sym same) has.maker;
   sizes = has.sizes ∙ ap sizes_of (sym same);
 }

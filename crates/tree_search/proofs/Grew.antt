@@ -6,24 +6,26 @@ use Rattle.std.proofs.lemmas.Bool.{leb-true, leb-false}
 use Rattle.std.proofs.lemmas.List.{length-map, get_or_default}
 use Rattle.std.proofs.lemmas.List.Elements.{All-append, All-cons, All-nil}
 use Rattle.location_terms.specs.declared.decision.Decision.{Decision}
-use Rattle.location_terms.specs.declared.decision.Decision.TheVariants.{Opened, Closed}
-use Rattle.location_terms.specs.Instance.{Instance, IsValid, site_ids, customer_ids, site_at}
+use Rattle.location_terms.specs.declared.decision.Decision.TheVariants.{Opened, Closed, Yes, No}
+use Rattle.location_terms.specs.Instance.{Instance, IsValid, site_ids, customer_ids, site_at, customer_at}
 use Rattle.location_terms.specs.Plan.{Plan}
 use Rattle.location_terms.specs.Box.{Path}
 use Rattle.location_terms.specs.Bound.{Duals, bound_of}
 use Rattle.location_terms.specs.Fit.{DualsFit}
-use Rattle.location_terms.specs.Tree.{Leaf, Tree, HasLists, nodes_of}
+use Rattle.location_terms.specs.Tree.{Node, Leaf, Tree, HasLists, nodes_of, size_of}
 use Rattle.dual_value.proofs.Further.{bound_rises, bound_rises_closed}
 use Rattle.plan_search.proofs.Among.{Contains-map}
 use Rattle.plan_search.specs.InBox.{IsPathOf, NamesKnown, IsNoWorse}
-use Rattle.branch_tree.specs.declared.split.Split.TheVariants.{Site}
-use Rattle.branch_tree.specs.Growing.{Growing, split_node, leaf_at_work, worked, split_in_two}
+use Rattle.branch_tree.specs.declared.split.Split.{Split}
+use Rattle.branch_tree.specs.declared.split.Split.TheVariants.{Site, Lane}
+use Rattle.branch_tree.specs.Preorder.{IsSound}
+use Rattle.branch_tree.specs.Growing.{Growing, entry_of, first_step, second_step, split_node, leaf_at_work, worked, split_in_two}
 use Rattle.branch_tree.specs.Built.{IsBuiltOf}
 use Rattle.branch_tree.proofs.Built.{built_leaves, built_with_duals, built_split, built_replaced, built_but_weaker, done_split, done_whole}
-use Rattle.tree_search.specs.Made.{IsMadeLeaf, IsOpenBox, IsFreeSite}
+use Rattle.tree_search.specs.Made.{IsMadeLeaf, IsOpenBox}
 use Rattle.tree_search.specs.Making.{LowersNone}
 use Rattle.tree_search.specs.Answer.{cost_in}
-use Rattle.tree_search.specs.Working.{IsWorked, IsDoneLeaf, IsSiteSplit, IsReached, AnySplit, IsGrowing, IsGrownPart, steps_left}
+use Rattle.tree_search.specs.Working.{IsWorked, IsOpenSplit, IsDoneLeaf, IsDueSplit, IsReached, AnySplit, IsGrowing, IsGrownPart, steps_left}
 use Rattle.tree_search.proofs.Closer.{no_worse_again, closes_still, sought_still}
 use Rattle.tree_search.proofs.LeafPlaces.{all_at, replaced_size}
 
@@ -48,6 +50,38 @@ known_more I path e known names = All-append (NamesKnown I) path (e ∷ []) know
 site_contained : (I : Instance) (i : ℕ) → i < length I.sites → Contains (site_ids I) (site_at I i).id
 site_contained I i b = Contains-map (λ s. s.id) I.sites (site_at I i) (i, b, get_or_default I.sites i _ _ b)
 
+customer_contained : (I : Instance) (j : ℕ) → j < length I.customers → Contains (customer_ids I) (customer_at I j).id
+customer_contained I j b = Contains-map (λ c. c.id) I.customers (customer_at I j) (j, b, get_or_default I.customers j _ _ b)
+
+-- A split of a box.
+
+split_size : (s : Split) (a b : Node) → size_of (split_node s a b) ≡ 1 + size_of a + size_of b
+split_size (Site s) a b = omega arith
+split_size (Lane s c) a b = omega arith
+
+module _ (I : Instance) (path : Path) where
+  -- the ids that the split names are the instance's
+  split_known : (s : Split) → IsOpenSplit I path s → IsSound (site_ids I) (customer_ids I) (entry_of s)
+  split_known (Site s) is = subst (Contains (site_ids I)) is.named (site_contained I is.place is.within)
+  split_known (Lane s c) is = (subst (Contains (site_ids I)) is.site_named (site_contained I is.site is.site_within), subst (Contains (customer_ids I)) is.customer_named (customer_contained I is.customer is.customer_within))
+
+  first_known : (s : Split) → IsSound (site_ids I) (customer_ids I) (entry_of s) → NamesKnown I (first_step s)
+  first_known (Site s) known = known
+  first_known (Lane s c) known = known
+
+  second_known : (s : Split) → IsSound (site_ids I) (customer_ids I) (entry_of s) → NamesKnown I (second_step s)
+  second_known (Site s) known = known
+  second_known (Lane s c) known = known
+
+  -- neither child lowers a bound
+  first_rises : IsValid I → (s : Split) → IsOpenSplit I path s → (d : Duals) → bound_of I path d ≤ℤ bound_of I (path ++ first_step s ∷ []) d
+  first_rises valid (Site s) is d = subst (λ n. bound_of I path d ≤ℤ bound_of I (path ++ Closed n ∷ []) d) is.named (bound_rises_closed I path d is.place valid is.within is.free)
+  first_rises valid (Lane s c) is d = bound_rises I path (No s c) d (λ i b called closes. cc)
+
+  second_rises : (s : Split) (d : Duals) → bound_of I path d ≤ℤ bound_of I (path ++ second_step s ∷ []) d
+  second_rises (Site s) d = bound_rises I path (Opened s) d (λ i b called closes. cc)
+  second_rises (Lane s c) d = bound_rises I path (Yes s c) d (λ i b called closes. cc)
+
 -- whether two nodes more are within the limit
 pub room_left : (n nodes limit : ℕ) → n ≡ nodes → leb (n + 2) limit ≡ true → nodes + 2 ≤ limit
 room_left n nodes limit same test = omega (arith, leb-true _ _ test, same)
@@ -67,7 +101,7 @@ module _ (I : Instance) (base : Path) (old : Duals) (handed plan plan' : Option 
   reached_at =
       all_at (λ l. IsReached I base l.0 l.1) _ (g.left - 1) (path, d) (built_leaves (IsReached I base) AnySplit g.tree.root g.base growing.reached) at_work
 
-  module _ (valid : IsValid I) (may_split : Bool) (e : Duals) (split : Option ℕ) (later : IsNoWorse I plan' plan) (is : IsWorked I plan' may_split old path e split) where
+  module _ (valid : IsValid I) (may_split : Bool) (e : Duals) (split : Option Split) (later : IsNoWorse I plan' plan) (is : IsWorked I plan' may_split old path e split) where
     made_here : IsMadeLeaf I base old path e
     made_here = is.made base reached_at.lowers
 
@@ -99,8 +133,8 @@ module _ (I : Instance) (base : Path) (old : Duals) (handed plan plan' : Option 
         customers = growing.customers;
         reached = built_with_duals (IsReached I base) AnySplit g path d at_work growing.reached e (record { known = reached_at.known; lowers = reached_at.lowers; fit = made_here.fit });
         done =
-            built_replaced (IsDoneLeaf I base old plan' limit (nodes_of after.tree)) (IsSiteSplit I (cost_in I handed)) path d (Leaf e) leaf_done g.tree.root g.base g.left (g.left - 1) (omega (arith, left)) at_work
-            (built_but_weaker (IsDoneLeaf I base old plan limit (nodes_of g.tree)) (IsDoneLeaf I base old plan' limit (nodes_of after.tree)) (IsSiteSplit I (cost_in I handed)) (IsSiteSplit I (cost_in I handed)) (done_still I base old plan' plan limit (nodes_of after.tree) (nodes_of g.tree) later (omega (arith, same_nodes))) (λ p s h. h) g.tree.root g.base g.left growing.done);
+            built_replaced (IsDoneLeaf I base old plan' limit (nodes_of after.tree)) (IsDueSplit I (cost_in I handed)) path d (Leaf e) leaf_done g.tree.root g.base g.left (g.left - 1) (omega (arith, left)) at_work
+            (built_but_weaker (IsDoneLeaf I base old plan limit (nodes_of g.tree)) (IsDoneLeaf I base old plan' limit (nodes_of after.tree)) (IsDueSplit I (cost_in I handed)) (IsDueSplit I (cost_in I handed)) (done_still I base old plan' plan limit (nodes_of after.tree) (nodes_of g.tree) later (omega (arith, same_nodes))) (λ p s h. h) g.tree.root g.base g.left growing.done);
         within = omega (arith, same_nodes, growing.within);
         no_worse = no_worse_again I plan' plan handed later growing.no_worse;
       }
@@ -109,39 +143,40 @@ module _ (I : Instance) (base : Path) (old : Duals) (handed plan plan' : Option 
       finished_less = omega (arith, same_nodes, left)
 
     -- the leaf at work is split
-    module _ (s : ℕ) (some : split ≡ Some s) (first : Duals) (same : first ≡ e) (room : IsTrue may_split → nodes_of g.tree + 2 ≤ limit) where
-      halved : IsTrue may_split × IsFreeSite I path s × ((handed : Option Plan) → IsNoWorse I plan' handed → IsOpenBox I (cost_in I handed) path)
-      halved = subst (λ o. IfSome o (λ s. IsTrue may_split × IsFreeSite I path s × ((handed : Option Plan) → IsNoWorse I plan' handed → IsOpenBox I (cost_in I handed) path))) some is.halved
+    module _ (s : Split) (some : split ≡ Some s) (first : Duals) (same : first ≡ e) (room : IsTrue may_split → nodes_of g.tree + 2 ≤ limit) where
+      halved : IsTrue may_split × IsOpenSplit I path s × ((handed : Option Plan) → IsNoWorse I plan' handed → IsOpenBox I (cost_in I handed) path)
+      halved = subst (λ o. IfSome o (λ s. IsTrue may_split × IsOpenSplit I path s × ((handed : Option Plan) → IsNoWorse I plan' handed → IsOpenBox I (cost_in I handed) path))) some is.halved
 
       abbrev after_split : Growing
-      after_split = split_in_two g (Site s) first e
+      after_split = split_in_two g s first e
 
       more_nodes : nodes_of after_split.tree ≡ nodes_of g.tree + 2
-      more_nodes = omega (arith, replaced_size (split_node (Site s) (Leaf first) (Leaf e)) path d g.tree.root g.base (g.left - 1) at_work)
+      more_nodes = omega (arith, split_size s (Leaf first) (Leaf e), replaced_size (split_node s (Leaf first) (Leaf e)) path d g.tree.root g.base (g.left - 1) at_work)
 
-      pub site_known : Contains (site_ids I) s
-      site_known = subst (Contains (site_ids I)) halved.1.named (site_contained I halved.1.place halved.1.within)
+      known : IsSound (site_ids I) (customer_ids I) (entry_of s)
+      known = split_known I path s halved.1
 
-      lowers_closed : LowersNone I base (path ++ Closed s ∷ [])
-      lowers_closed x =
-          subst (λ n. bound_of I base x ≤ℤ bound_of I (path ++ Closed n ∷ []) x) halved.1.named
-          (omega (arith, ints, reached_at.lowers x, bound_rises_closed I path x halved.1.place valid halved.1.within halved.1.free))
+      pub split_sound : IsSound g.tree.sites g.tree.customers (entry_of s)
+      split_sound = subst (λ xs. IsSound xs g.tree.customers (entry_of s)) (sym growing.sites) (subst (λ xs. IsSound (site_ids I) xs (entry_of s)) (sym growing.customers) known)
 
-      lowers_opened : LowersNone I base (path ++ Opened s ∷ [])
-      lowers_opened x = omega (arith, ints, reached_at.lowers x, bound_rises I path (Opened s) x (λ i b called closes. cc))
+      lowers_first : LowersNone I base (path ++ first_step s ∷ [])
+      lowers_first x = omega (arith, ints, reached_at.lowers x, first_rises I path valid s halved.1 x)
+
+      lowers_second : LowersNone I base (path ++ second_step s ∷ [])
+      lowers_second x = omega (arith, ints, reached_at.lowers x, second_rises I path s x)
 
       pub halves : IsGrowing I base old handed plan' limit after_split
       halves = record {
         at = growing.at;
         sites = growing.sites;
         customers = growing.customers;
-        reached = built_split (IsReached I base) AnySplit g path d at_work growing.reached (Site s) first e tt
-            (record { known = known_more I path (Closed s) reached_at.known site_known; lowers = lowers_closed; fit = subst (DualsFit I) (sym same) made_here.fit })
-            (record { known = known_more I path (Opened s) reached_at.known site_known; lowers = lowers_opened; fit = made_here.fit });
+        reached = built_split (IsReached I base) AnySplit g path d at_work growing.reached s first e tt
+            (record { known = known_more I path (first_step s) reached_at.known (first_known I path s known); lowers = lowers_first; fit = subst (DualsFit I) (sym same) made_here.fit })
+            (record { known = known_more I path (second_step s) reached_at.known (second_known I path s known); lowers = lowers_second; fit = made_here.fit });
         done =
-            done_split (IsDoneLeaf I base old plan' limit (nodes_of after_split.tree)) (IsSiteSplit I (cost_in I handed)) g left path d at_work
-            (built_but_weaker (IsDoneLeaf I base old plan limit (nodes_of g.tree)) (IsDoneLeaf I base old plan' limit (nodes_of after_split.tree)) (IsSiteSplit I (cost_in I handed)) (IsSiteSplit I (cost_in I handed)) (done_still I base old plan' plan limit (nodes_of after_split.tree) (nodes_of g.tree) later (omega (arith, more_nodes))) (λ p s h. h) g.tree.root g.base g.left growing.done)
-            (Site s) first e (halved.2 handed (no_worse_again I plan' plan handed later growing.no_worse), halved.1);
+            done_split (IsDoneLeaf I base old plan' limit (nodes_of after_split.tree)) (IsDueSplit I (cost_in I handed)) g left path d at_work
+            (built_but_weaker (IsDoneLeaf I base old plan limit (nodes_of g.tree)) (IsDoneLeaf I base old plan' limit (nodes_of after_split.tree)) (IsDueSplit I (cost_in I handed)) (IsDueSplit I (cost_in I handed)) (done_still I base old plan' plan limit (nodes_of after_split.tree) (nodes_of g.tree) later (omega (arith, more_nodes))) (λ p s h. h) g.tree.root g.base g.left growing.done)
+            s first e (halved.2 handed (no_worse_again I plan' plan handed later growing.no_worse), halved.1);
         within = omega (arith, more_nodes, room halved.0);
         no_worse = no_worse_again I plan' plan handed later growing.no_worse;
       }
@@ -157,8 +192,8 @@ growing_on I J base old handed plan plan' limit g g' same step growing =
 -- once every leaf is done
 pub grown_part : (I : Instance) (base : Path) (old : Duals) (handed plan : Option Plan) (limit : ℕ) (g : Growing) (t : Tree) → t ≡ g.tree → g.left ≡ 0 → IsGrowing I base old handed plan limit g → IsGrownPart I base old handed plan limit t
 grown_part I base old handed plan limit g t is none growing =
-    let root : IsBuiltOf (IsDoneLeaf I base old plan limit (nodes_of g.tree)) (IsSiteSplit I (cost_in I handed)) base g.tree.root =
-    subst (λ b. IsBuiltOf (IsDoneLeaf I base old plan limit (nodes_of g.tree)) (IsSiteSplit I (cost_in I handed)) b g.tree.root) growing.at
-    (done_whole (IsDoneLeaf I base old plan limit (nodes_of g.tree)) (IsSiteSplit I (cost_in I handed)) g none growing.done) in
+    let root : IsBuiltOf (IsDoneLeaf I base old plan limit (nodes_of g.tree)) (IsDueSplit I (cost_in I handed)) base g.tree.root =
+    subst (λ b. IsBuiltOf (IsDoneLeaf I base old plan limit (nodes_of g.tree)) (IsDueSplit I (cost_in I handed)) b g.tree.root) growing.at
+    (done_whole (IsDoneLeaf I base old plan limit (nodes_of g.tree)) (IsDueSplit I (cost_in I handed)) g none growing.done) in
     subst (IsGrownPart I base old handed plan limit) (sym is)
     (record { sites = growing.sites; customers = growing.customers; root = root; within = growing.within })

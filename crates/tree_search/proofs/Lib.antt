@@ -1,14 +1,20 @@
 mod Closer
+mod CountRay
 mod Ending
+mod ForcedDemands
+mod FullRay
 mod Grew
+mod JudgedRay
 mod LeafPlaces
 mod Offered
+mod OpenLanes
 mod OpenPlans
 mod PlaceSums
 mod Regrows
 mod Renewed
 mod Reseated
 mod Settled
+mod SettledPlans
 mod Shown
 mod Going
 mod TightPlans
@@ -18,5 +24,5 @@ mod ZeroTrees
 pub mod Comparing
 pub mod Decided
 pub mod Leaves
-pub mod Rays
 pub mod ServedLanes
+pub mod UnservedRay

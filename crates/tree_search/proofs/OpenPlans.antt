@@ -40,7 +40,7 @@ opened_not_free : (called closed : Bool) → (called && not closed) ≡ true →
 opened_not_free true closed e f = cc
 opened_not_free false closed e f = cc
 
-plan_by : {X : Type 0} (make : X → Plan) (b : Bool) (o : Option X) → b ≡ true → (o ≡ None → ⊥) → (P : Plan) × (cond b (option_map make o) None ≡ Some P)
+pub plan_by : {X : Type 0} (make : X → Plan) (b : Bool) (o : Option X) → b ≡ true → (o ≡ None → ⊥) → (P : Plan) × (cond b (option_map make o) None ≡ Some P)
 plan_by make true None e some = absurd (some refl)
 plan_by make true (Some x) e some = (make x, refl)
 plan_by make false o e some = cc

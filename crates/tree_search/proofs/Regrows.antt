@@ -13,16 +13,16 @@ use Rattle.location_terms.specs.Bound.{Duals, bound_of}
 use Rattle.location_terms.specs.Fit.{DualsFit, BoundCloses, Closes}
 use Rattle.location_terms.specs.Tree.{Node, Leaf, OnSite, OnLane, Tree, IsTree, StandsOn, SplitsAmong, leaves_below, leaves_of, nodes_of, size_of}
 use Rattle.dual_ascent.proofs.Plain.{plain_keeps}
-use Rattle.plan_search.specs.InBox.{IsPathOf, HasNoCaps, IsNoWorse}
+use Rattle.plan_search.specs.InBox.{IsPathOf, IsNoWorse}
 use Rattle.branch_tree.specs.Leaf.{leaf_total, replaced}
 use Rattle.branch_tree.specs.Built.{IsBuiltOf}
 use Rattle.branch_tree.proofs.Built.{built_leaves}
 use Rattle.tree_search.specs.Made.{IsMadeAtScale, IsOpenBox, IsMade, plain_scale}
 use Rattle.tree_search.specs.Grown.{IsGrownBelow, IsGrownFrom, PlansWereSought}
-use Rattle.tree_search.specs.Answer.{HasFreeCount, AreHeld, IsWithin, IsAnswerTo, cost_in, plan_in}
+use Rattle.tree_search.specs.Answer.{AreHeld, IsWithin, IsAnswerTo, cost_in, plan_in}
 use Rattle.tree_search.specs.declared.answer.Answer.{Answer}
 use Rattle.tree_search.specs.declared.limits.TheConstants.{MAX_DUALS}
-use Rattle.tree_search.specs.Working.{IsSoughtAt, IsDoneLeaf, IsSiteSplit, IsGrownPart}
+use Rattle.tree_search.specs.Working.{IsSoughtAt, IsDoneLeaf, IsDueSplit, IsGrownPart}
 use Rattle.tree_search.specs.Regrown.{IsKnownLeaf, HasEnded, HaveEnded, Answers, IsRenewed, IsRenewedBut, IsGrownAt, IsRegrownFrom}
 use Rattle.tree_search.proofs.Closer.{closes_no_worse, closes_still, sought_still}
 use Rattle.tree_search.proofs.Comparing.{times_le}
@@ -48,7 +48,7 @@ module _ (I : Instance) where
     fit = ended.fit;
     ray = ended.ray;
     above = ended.above;
-    some = λ scaled. is_some_still plan' plan later (ended.some scaled);
+    some = λ scaled no_caps free_count. is_some_still plan' plan later (ended.some scaled no_caps free_count);
     sought = λ scaled. sought_still I path plan' plan later d (ended.sought scaled);
     ends = elim ended.ends [
       | inl closes ↦ inl (closes_still I path plan' plan later d closes)
@@ -91,7 +91,7 @@ module _ (I : Instance) where
         fit = closes.fit;
         ray = λ none. ray_bound bound d.q (cost_in I handed) none closes.closed;
         above = λ scaled. above_scaled bound d.q (cost_in I handed) scaled closes.closed;
-        some = λ scaled. some_target bound d.q handed scaled closes.closed;
+        some = λ scaled _ _. some_target bound d.q handed scaled closes.closed;
         sought = closed_sought I path d handed valid known closes.fit.of_instance closes.closed;
         ends = inl closes.closed;
       } in
@@ -108,7 +108,7 @@ module _ (I : Instance) where
       omega (arith, ints, above, some)
   from_zero b (negsuc n) q r some more zero_or_more least = absurd (omega (arith, ints, zero_or_more))
 
-  module _ (valid : IsValid I) (no_caps : HasNoCaps I) (free_count : HasFreeCount I) where
+  module _ (valid : IsValid I) where
     made_above : (base : Path) (old : Duals) (path : Path) (d : Duals) → IsMadeAtScale I base old path d → (pos 0 -ℤ pos d.q) <ℤ bound_of I path d
     made_above base old path d made =
         let scale : made.ascent.q ≡ plain_scale I = (plain_keeps I path (plain_scale I) (plain_scale_fits I).0 (plain_scale_fits I).1 valid made.ascent made.is_plain).scale in
@@ -119,7 +119,7 @@ module _ (I : Instance) where
       fit = done.made.fit;
       ray = done.made.ray;
       above = λ scaled. made_above base old path d (done.made.scaled scaled);
-      some = λ scaled.
+      some = λ scaled no_caps free_count.
           let at_scale = done.made.scaled scaled in
           let packs = tight_plans I path d valid no_caps free_count at_scale.served at_scale.blocked in
           is_some_of plan _ (done.sought scaled packs.0 packs.1);
@@ -145,11 +145,12 @@ module _ (I : Instance) where
         open_to None (Some P) later bound q fails = absurd later
         open_to (Some Q) (Some P) later bound q fails = λ closes. fails (closes_no_worse I bound q (Some Q) (Some P) later closes)
 
-    built_made : (base : Path) (old : Duals) (plan handed plan' : Option Plan) (limit nodes : ℕ) → IsNoWorse I plan handed → (t : Node) (path : Path) → IsBuiltOf (IsDoneLeaf I base old plan' limit nodes) (IsSiteSplit I (cost_in I plan)) path t → IsMade I (cost_in I handed) base old path t
+    built_made : (base : Path) (old : Duals) (plan handed plan' : Option Plan) (limit nodes : ℕ) → IsNoWorse I plan handed → (t : Node) (path : Path) → IsBuiltOf (IsDoneLeaf I base old plan' limit nodes) (IsDueSplit I (cost_in I plan)) path t → IsMade I (cost_in I handed) base old path t
     built_made base old plan handed plan' limit nodes later (Leaf d) path h = h.made
     built_made base old plan handed plan' limit nodes later (OnSite s a b) path h =
         (open_weaker plan handed path later h.0.0, h.0.1, built_made base old plan handed plan' limit nodes later a (path ++ Closed s ∷ []) h.1, built_made base old plan handed plan' limit nodes later b (path ++ Opened s ∷ []) h.2)
-    built_made base old plan handed plan' limit nodes later (OnLane s c a b) path h = absurd h.0
+    built_made base old plan handed plan' limit nodes later (OnLane s c a b) path h =
+        (open_weaker plan handed path later h.0.0, h.0.1, built_made base old plan handed plan' limit nodes later a (path ++ No s c ∷ []) h.1, built_made base old plan handed plan' limit nodes later b (path ++ Yes s c ∷ []) h.2)
 
     pub part_renewed : (handed plan plan' : Option Plan) (budget before made : ℕ) (path : Path) (d : Duals) (part : Tree) → before ≤ budget → IsNoWorse I plan handed → (Closes I path d (cost_in I handed) → ⊥) → nodes_of part ≡ made + 1 → IsGrownPart I path d plan plan' ((budget - before) + 1) part → IsRenewed I handed plan' budget (before + made) path d part.root
     part_renewed handed plan plan' budget before made path d part within later unclosed count grown = record {
@@ -158,7 +159,7 @@ module _ (I : Instance) where
           All-weaker (λ l. IsDoneLeaf I path d plan' ((budget - before) + 1) (nodes_of part) l.0 l.1) (λ l. HasEnded I plan' budget (before + made) l.0 l.1)
           (λ l done. done_ended path d plan' ((budget - before) + 1) (nodes_of part) budget (before + made) (omega (arith, count, within)) l.0 l.1 done)
           (leaves_below path part.root)
-          (built_leaves (IsDoneLeaf I path d plan' ((budget - before) + 1) (nodes_of part)) (IsSiteSplit I (cost_in I plan)) part.root path grown.root);
+          (built_leaves (IsDoneLeaf I path d plan' ((budget - before) + 1) (nodes_of part)) (IsDueSplit I (cost_in I plan)) part.root path grown.root);
     }
 
   -- The whole tree.
@@ -221,7 +222,7 @@ some_at [] k within = absurd (omega (arith, within))
 some_at (x ∷ xs) zero within = (x, refl)
 some_at (x ∷ xs) (suc k) within = some_at xs k (omega (arith, within))
 
-module _ (I : Instance) (valid : IsValid I) (no_caps : HasNoCaps I) (free_count : HasFreeCount I) (old : Tree) (handed : Option Plan) (budget : ℕ) (held : List Bool) (are : AreHeld I old (cost_in I handed) held) where
+module _ (I : Instance) (valid : IsValid I) (old : Tree) (handed : Option Plan) (budget : ℕ) (held : List Bool) (are : AreHeld I old (cost_in I handed) held) where
   abbrev R : Option Plan → ℕ → Path → Duals → Node → Type 0
   R plan made = IsRenewed I handed plan budget made
 
@@ -272,7 +273,7 @@ module _ (I : Instance) (valid : IsValid I) (no_caps : HasNoCaps I) (free_count 
     grown_step at later plan' new' more better grown =
         let part : IsGrownPart I leaf.0.0 leaf.0.1 plan plan' ((budget - made) + 1) grown.part = subst (λ o. IfSome o (λ l. IsGrownPart I l.0 l.1 plan plan' ((budget - made) + 1) grown.part)) leaf_now grown.grown in
         let renewed : IsRenewed I handed plan' budget (made + more) leaf.0.0 leaf.0.1 grown.part.root =
-        part_renewed I valid no_caps free_count handed plan plan' budget made more leaf.0.0 leaf.0.1 grown.part so_far.within later
+        part_renewed I valid handed plan plan' budget made more leaf.0.0 leaf.0.1 grown.part so_far.within later
         (λ closes. both_ways false refl ((told false at).1 closes)) grown.count part in
         let size : size_of (replaced new.root k grown.part.root) + 1 ≡ size_of new.root + size_of grown.part.root = replaced_size grown.part.root leaf.0.0 leaf.0.1 new.root [] k leaf_now in
         let count : nodes_of new' ≡ size_of (replaced new.root k grown.part.root) = ap nodes_of grown.now in

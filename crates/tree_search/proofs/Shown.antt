@@ -11,9 +11,10 @@ use Rattle.location_terms.specs.Bound.{Duals, bound_of}
 use Rattle.location_terms.specs.Fit.{DualsFit, BoundCloses, Closes}
 use Rattle.location_terms.specs.Tree.{Tree, IsTree, StandsOn, AllClose, leaves_of, low_of}
 use Rattle.location_terms.specs.Certificate.{Costs}
+use Rattle.plan_search.specs.InBox.{HasNoCaps}
 use Rattle.branch_tree.proofs.LowEnd.{closes_against_low}
 use Rattle.tree_search.specs.declared.answer.Answer.TheVariants.{Bracket}
-use Rattle.tree_search.specs.Answer.{cost_in}
+use Rattle.tree_search.specs.Answer.{HasFreeCount, cost_in}
 use Rattle.tree_search.specs.Regrown.{HasEnded, HaveEnded, Answers}
 
 closes_scaled : (bound : ℤ) (q : ℕ) (target : Option ℕ) → 1 ≤ q → BoundCloses bound q target ⊎ (BoundCloses bound q target → ⊥)
@@ -40,7 +41,7 @@ module _ (I : Instance) (plan : Option Plan) (budget made : ℕ) where
     leaf : Contains leaves (path, duals)
     unclosed : Closes I path duals (cost_in I plan) → ⊥
     spent : budget < made + 2
-    some : IsSome plan
+    some : HasNoCaps I → HasFreeCount I → IsSome plan
 
   later : (l : Path × Duals) (ls : List (Path × Duals)) → IsOpenAmong ls → IsOpenAmong (l ∷ ls)
   later l ls found = record {
@@ -90,6 +91,6 @@ module _ (I : Instance) (plan : Option Plan) (budget made : ℕ) where
             spent = found.spent;
             unfinished = record { path = found.path; duals = found.duals; leaf = found.leaf; unclosed = found.unclosed };
             shown = is;
-            planless = λ no_caps free_count. found.some;
+            planless = found.some;
           };
         }

@@ -1,5 +1,5 @@
 -- What is decided on a leaf that is worked, and what is shown of it.
-use Rattle.std.proofs.Common.{◌≡◌, ℕ, ◌≤◌, Bool, subst, inl, inr, Option, Some, None, IfSome}
+use Rattle.std.proofs.Common.{◌≡◌, ℕ, ◌≤◌, Bool, subst, inl, inr, arith, [], Option, Some, None, IfSome}
 use Rattle.std.specs.Prelude.{IfNone, IsTrue, IsSomeAnd, ℤ}
 use Rattle.location_terms.specs.Instance.{Instance, IsValid}
 use Rattle.location_terms.specs.Plan.{Plan, cost_of}
@@ -9,18 +9,20 @@ use Rattle.location_terms.specs.Fit.{BoundCloses}
 use Rattle.dual_value.specs.Prepared.{Prepared}
 use Rattle.dual_value.specs.Scales.{IsAtLeast}
 use Rattle.dual_adjust.specs.Slackness.{tight_sites}
-use Rattle.plan_search.specs.InBox.{IsPathOf, HasNoCaps, IsNoWorse}
+use Rattle.plan_search.specs.InBox.{IsPathOf, IsNoWorse}
 use Rattle.plan_search.specs.Packed.{packed}
-use Rattle.tree_search.specs.Made.{AreServed, IsMadeLeaf, IsOpenBox, IsFreeSite}
+use Rattle.branch_tree.specs.declared.split.Split.{Split}
+use Rattle.tree_search.specs.Made.{IsMadeLeaf, IsOpenBox}
+use Rattle.tree_search.specs.Rays.{IsRayless}
 use Rattle.tree_search.specs.Making.{Making, LowersNone, IsMaking, StaysMaking}
-use Rattle.tree_search.specs.Answer.{HasFreeCount, cost_in}
-use Rattle.tree_search.specs.Working.{ClosesWith, IsSoughtAt, HasNoFreeSite, IsPressed, IsVerdict, IsWorked}
+use Rattle.tree_search.specs.Answer.{cost_in}
+use Rattle.tree_search.specs.Working.{ClosesWith, IsSoughtAt, IsSettled, IsOpenSplit, IsPressed, IsVerdict, IsWorked}
 use Rattle.tree_search.proofs.Closer.{closes_at_least, closes_no_worse, closes_still, sought_still}
 use Rattle.tree_search.proofs.Comparing.{at_least_trans}
 use Rattle.tree_search.proofs.Settled.{settled}
 
 module _ (I : Instance) (path : Path) where
-  pub verdict_on : (d : Duals) (plan : Option Plan) (may_split : Bool) (split : Option ℕ) → (1 ≤ d.q → IsSoughtAt I plan path d) → IsTrue may_split → (ClosesWith I plan path d → ⊥) → IfSome split (IsFreeSite I path) → IfNone split (HasNoFreeSite I path) → IsVerdict I plan may_split path d split
+  pub verdict_on : (d : Duals) (plan : Option Plan) (may_split : Bool) (split : Option Split) → (1 ≤ d.q → IsSoughtAt I plan path d) → IsTrue may_split → (ClosesWith I plan path d → ⊥) → IfSome split (IsOpenSplit I path) → IfNone split (IsSettled I path) → IsVerdict I plan may_split path d split
   verdict_on d plan may_split None sought may unclosed some none = record { sought = sought; whole = λ e. inr (inr none); halved = tt }
   verdict_on d plan may_split (Some s) sought may unclosed some none = record { sought = sought; whole = λ e. cc; halved = (unclosed, may, some) }
 
@@ -33,7 +35,7 @@ module _ (I : Instance) (path : Path) where
   open_target bound q (Some T) fails = fails
 
   -- A leaf that was pressed and then settled.
-  module _ (valid : IsValid I) (no_caps : HasNoCaps I) (free_count : HasFreeCount I) (known : IsPathOf I path) (served : AreServed I path) where
+  module _ (valid : IsValid I) (known : IsPathOf I path) (rayless : IsRayless I path) where
     module _ (m m' m'' : Making) (old_path : Path) (old : Duals) (making : IsMaking I old_path old path m) (first : StaysMaking I path m m') (second : StaysMaking I path m' m'') (plan plan' : Option Plan) (later : IsNoWorse I plan' plan) (pressed : IsPressed I plan path m.plain m'.best.duals) where
       making' : IsMaking I old_path old path m'
       making' = first.making old_path old making
@@ -65,7 +67,7 @@ module _ (I : Instance) (path : Path) where
 
       open_box : (ClosesWith I plan' path m''.best.duals → ⊥) → (handed : Option Plan) → IsNoWorse I plan' handed → IsOpenBox I (cost_in I handed) path
       open_box unclosed handed no_worse = record {
-        served = served;
+        served = rayless.served;
         ascent = m.plain;
         is_plain = making.is_plain;
         target_open = open_target (bound_of I path m.plain) m.plain.q (cost_in I handed)
@@ -73,12 +75,12 @@ module _ (I : Instance) (path : Path) where
         packed_open = λ P is closes. unclosed (packed_closes P is closes);
       }
 
-      halved_on : (may_split : Bool) (split : Option ℕ) → IfSome split (λ s. (ClosesWith I plan' path m''.best.duals → ⊥) × IsTrue may_split × IsFreeSite I path s)
-          → IfSome split (λ s. IsTrue may_split × IsFreeSite I path s × ((handed : Option Plan) → IsNoWorse I plan' handed → IsOpenBox I (cost_in I handed) path))
+      halved_on : (may_split : Bool) (split : Option Split) → IfSome split (λ s. (ClosesWith I plan' path m''.best.duals → ⊥) × IsTrue may_split × IsOpenSplit I path s)
+          → IfSome split (λ s. IsTrue may_split × IsOpenSplit I path s × ((handed : Option Plan) → IsNoWorse I plan' handed → IsOpenBox I (cost_in I handed) path))
       halved_on may_split None h = tt
       halved_on may_split (Some s) h = (h.1, h.2, open_box h.0)
 
-      pub worked_from : (may_split : Bool) (split : Option ℕ) (replaced : Duals) → IsVerdict I plan' may_split path m''.best.duals split → ((path' : Path) → LowersNone I path' path → IsMadeLeaf I path' replaced path m''.best.duals) → IsWorked I plan' may_split replaced path m''.best.duals split
+      pub worked_from : (may_split : Bool) (split : Option Split) (replaced : Duals) → IsVerdict I plan' may_split path m''.best.duals split → ((path' : Path) → LowersNone I path' path → IsMadeLeaf I path' replaced path m''.best.duals) → IsWorked I plan' may_split replaced path m''.best.duals split
       worked_from may_split split replaced verdict made = record {
         made = made;
         sought = verdict.sought;
@@ -86,8 +88,8 @@ module _ (I : Instance) (path : Path) where
           | inl closes ↦ inl closes
           | inr left ↦ elim left [
             | inl must ↦ inr must
-            | inr none_free ↦
-                let end = settled I path valid no_caps free_count known served none_free m.plain making.is_plain (tight_sites I path m.plain) in
+            | inr nothing ↦
+                let end = settled I path valid known rayless nothing m.plain making.is_plain (tight_sites I path m.plain) in
                 inl (packed_closes end.0 end.1 end.2)
           ]
         ];
@@ -95,7 +97,16 @@ module _ (I : Instance) (path : Path) where
       }
 
 -- in the box as it is named
-pub worked_in : (b : Prepared) (J I : Instance) (path : Path) (plan : Option Plan) (may_split : Bool) (old d : Duals) (split : Option ℕ) → b ≡ record { instance = J; path = path } → J ≡ I → IsWorked b.instance plan may_split old b.path d split → IsWorked I plan may_split old path d split
+pub worked_in : (b : Prepared) (J I : Instance) (path : Path) (plan : Option Plan) (may_split : Bool) (old d : Duals) (split : Option Split) → b ≡ record { instance = J; path = path } → J ≡ I → IsWorked b.instance plan may_split old b.path d split → IsWorked I plan may_split old path d split
 worked_in b J I path plan may_split old d split is same worked =
     let at : IsWorked J plan may_split old path d split = subst (λ (x : Prepared). IsWorked x.instance plan may_split old x.path d split) is worked in
     subst (λ x. IsWorked x plan may_split old path d split) same at
+
+-- a box that a ray closes
+pub ray_worked : (I : Instance) (path : Path) (plan : Option Plan) (may_split : Bool) (old d : Duals) → d.q ≡ 0 → ((old_path : Path) (x : Duals) → IsMadeLeaf I old_path x path d) → IsWorked I plan may_split old path d None
+ray_worked I path plan may_split old d ray made = record {
+  made = λ old_path lowers. made old_path old;
+  sought = λ scaled. absurd (omega (arith, scaled, ray));
+  whole = λ none. inl (inl (ray, (made [] old).ray ray));
+  halved = tt;
+}

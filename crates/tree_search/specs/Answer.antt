@@ -1,5 +1,5 @@
 -- What a search may start from, and what it answers.
-use Rattle.std.specs.Prelude.{◌≡◌, ◌⊎◌, ℕ, ◌+◌, ◌*◌, ◌<◌, ◌≤◌, Bool, IsTrue, List, length, All, Contains, Option, None, Some, option_map, IfSome, IsSome, ◌↔◌, slice_get}
+use Rattle.std.specs.Prelude.{◌≡◌, ◌⊎◌, ℕ, ◌+◌, ◌*◌, ◌<◌, ◌≤◌, Bool, IsTrue, List, length, All, Contains, Option, None, Some, option_map, IfSome, IsSome, ◌↔◌, slice_get, if◌then◌else◌}
 use Rattle.location_terms.specs.declared.claim.Claim.{Claim}
 use Rattle.location_terms.specs.declared.claim.Claim.TheVariants as claims
 use Rattle.location_terms.specs.Instance.{Instance}
@@ -10,6 +10,7 @@ use Rattle.location_terms.specs.Fit.{DualsFit, Closes}
 use Rattle.location_terms.specs.Tree.{Tree, StandsOn, leaves_of, nodes_of, low_of}
 use Rattle.location_terms.specs.Certificate.{Certificate, IsAccepted}
 use Rattle.plan_search.specs.InBox.{HasNoCaps, IsNoWorse}
+use Rattle.tree_search.specs.Made.{has_cap}
 use Rattle.tree_search.specs.Grown.{IsGrownFrom, PlansWereSought}
 use Rattle.tree_search.specs.declared.limits.TheConstants.{MAX_DUALS}
 use Rattle.tree_search.specs.declared.answer.Answer.{Answer}
@@ -29,6 +30,10 @@ cost_in I plan = option_map (cost_of I) plan
 pub record HasFreeCount (I : Instance) : Type 0 where
   pub lo : I.lo ≡ 0
   pub hi : length I.sites ≤ I.hi
+
+-- how many decisions the splits above a leaf take at most: one for each site and, where some site has a capacity, one for each lane
+abbrev pub most_decisions : Instance → ℕ
+most_decisions I = if has_cap I then length I.sites + length I.sites * length I.customers else length I.sites
 
 -- the list says of each leaf, in preorder, whether it closes against the target, or, where there is no target, without one
 pub record AreHeld (I : Instance) (t : Tree) (target : Option ℕ) (held : List Bool) : Type 0 where

@@ -1,4 +1,6 @@
 pub mod Made
+pub mod Rays
+pub mod Service
 pub mod Grown
 pub mod Making
 pub mod Stored
@@ -7,3 +9,4 @@ pub mod Best
 pub mod Searching
 pub mod Working
 pub mod Regrown
+pub mod Helping

@@ -1,6 +1,6 @@
 -- What a search puts into the place of a leaf that is open: a tree whose leaves are at least as good as the plain ascent's, and
 -- which splits no box that needs no split. The rule is the suite's own.
-use Rattle.std.specs.Prelude.{◌≡◌, ◌≢◌, ◌⊎◌, ℕ, ◌<◌, ◌≤◌, [], ◌∷◌, ◌++◌, length, Contains, Option, Some, IfSome, is_some, IsTrue, IsFalse, pos, ◌≤ℤ◌, if◌then◌else◌}
+use Rattle.std.specs.Prelude.{◌≡◌, ◌≢◌, ◌⊎◌, ℕ, Bool, ◌<◌, ◌≤◌, [], ◌∷◌, ◌++◌, length, Contains, Option, Some, IfSome, is_some, IsTrue, IsFalse, pos, ◌≤ℤ◌, if◌then◌else◌}
 use Rattle.std.specs.List.{list_any}
 use Rattle.location_terms.specs.Instance.{Instance, site_at, customer_at}
 use Rattle.location_terms.specs.Plan.{Plan, cost_of}
@@ -20,9 +20,13 @@ use Rattle.plan_search.specs.Packed.{packed}
 
 -- The plain ascent of a box.
 
+-- some site has a capacity
+abbrev pub has_cap : Instance → Bool
+has_cap I = list_any (λ s. is_some s.cap) I.sites
+
 -- its scale: 1 where no site has a capacity, and else 1,000
 abbrev pub plain_scale : Instance → ℕ
-plain_scale I = if list_any (λ s. is_some s.cap) I.sites then 1000 else 1
+plain_scale I = if has_cap I then 1000 else 1
 
 -- the duals of the ascent from zeros in the box
 abbrev pub IsPlainAscent : Instance → Path → Duals → Type 0
@@ -81,7 +85,7 @@ pub record IsFreeSite (I : Instance) (path : Path) (s : ℕ) : Type 0 where
 -- The lane may be split on: some site has a capacity, no site is free, the box allows the lane, no decision uses it, and the
 -- customer has another allowed lane.
 pub record IsOpenLane (I : Instance) (path : Path) (s c : ℕ) : Type 0 where
-  pub capacitated : IsTrue (list_any (λ x. is_some x.cap) I.sites)
+  pub capacitated : IsTrue (has_cap I)
   pub none_free : (i : ℕ) → i < length I.sites → IsFalse (is_free path (site_at I i))
   pub site : ℕ
   pub customer : ℕ

@@ -10,17 +10,17 @@ use Rattle.dual_ascent.specs.Ascent.{IsAscended}
 use Rattle.dual_ascent.specs.Work.{Work}
 use Rattle.dual_adjust.specs.Slackness.{tight_sites}
 use Rattle.dual_adjust.specs.Present.{Present, HasAscended}
-use Rattle.dual_steps.specs.Sizes.{Sizes, sizes_of}
-use Rattle.tree_search.specs.Made.{IsMadeScale, IsPlainAscent}
+use Rattle.dual_value.specs.Zeros.{zeros}
+use Rattle.tree_search.specs.Made.{IsMadeScale, IsPlainAscent, plain_scale}
 
--- the duals of the plain ascent, their bound and tight sites; the best duals and their bound; and for how many sites and customers they are
+-- the zeros from which plain ascents start; the duals of the plain ascent, their bound and tight sites; the best duals and their bound
 pub record Making : Type 0 where
+  pub zeros : Duals
   pub plain : Duals
   pub plain_bound : ℤ
   pub hint : List ℕ
   pub best : Present
   pub bound : ℤ
-  pub sizes : Sizes
 
 -- the codes by which a struct can have this as its value
 
@@ -35,9 +35,13 @@ present_code = code_by (Duals × Work) (coded× duals_code work_code) (λ p. (p.
 
 abbrev pub making_code : Coded Making
 making_code =
-    code_by (Duals × (ℤ × (List ℕ × (Present × (ℤ × (ℕ × ℕ)))))) (coded× duals_code (coded× coded_ℤ (coded× (coded_list coded_ℕ) (coded× present_code (coded× coded_ℤ (coded× coded_ℕ coded_ℕ))))))
-    (λ m. (m.plain, (m.plain_bound, (m.hint, (m.best, (m.bound, (m.sizes.sites, m.sizes.customers)))))))
-    (λ p. record { plain = p.0; plain_bound = p.1.0; hint = p.1.1.0; best = p.1.1.1.0; bound = p.1.1.1.1.0; sizes = record { sites = p.1.1.1.1.1.0; customers = p.1.1.1.1.1.1 } }) (λ _. refl)
+    code_by (Duals × (Duals × (ℤ × (List ℕ × (Present × ℤ))))) (coded× duals_code (coded× duals_code (coded× coded_ℤ (coded× (coded_list coded_ℕ) (coded× present_code coded_ℤ)))))
+    (λ m. (m.zeros, (m.plain, (m.plain_bound, (m.hint, (m.best, m.bound))))))
+    (λ p. record { zeros = p.0; plain = p.1.0; plain_bound = p.1.1.0; hint = p.1.1.1.0; best = p.1.1.1.1.0; bound = p.1.1.1.1.1 }) (λ _. refl)
+
+-- its plain ascents start where those of the instance do
+abbrev pub IsMakerFor : Instance → Making → Type 0
+IsMakerFor I m = m.zeros ≡ zeros I (plain_scale I)
 
 -- no duals have a lower bound in the box of the path than in that of the old path: so it is where the path goes on from the old one by decisions on free sites and allowed lanes
 abbrev pub LowersNone : Instance → Path → Path → Type 0
@@ -46,7 +50,7 @@ LowersNone I old_path path = (d : Duals) → bound_of I old_path d ≤ℤ bound_
 -- What the best duals have below a leaf whose path and duals are `old_path` and `old`. A made leaf of a scale needs two things more: an allowed lane for
 -- every customer, and a greater bound than the plain ascent where that gains.
 pub record IsMaking (I : Instance) (old_path : Path) (old : Duals) (path : Path) (m : Making) : Type 0 where
-  pub sizes : m.sizes ≡ sizes_of I
+  pub maker : IsMakerFor I m
   pub plain_tame : AreTame I m.plain
   pub plain_risen : IsAscended I path m.plain m.plain
   pub is_plain : IsPlainAscent I path m.plain

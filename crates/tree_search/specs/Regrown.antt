@@ -8,11 +8,11 @@ use Rattle.location_terms.specs.Bound.{Duals, bound_of}
 use Rattle.location_terms.specs.Fit.{DualsFit, Closes}
 use Rattle.location_terms.specs.Tree.{Node, Leaf, OnSite, OnLane, Tree, leaves_below, leaves_of, nodes_of}
 use Rattle.location_terms.specs.Certificate.{IsAccepted}
-use Rattle.plan_search.specs.InBox.{IsPathOf}
+use Rattle.plan_search.specs.InBox.{IsPathOf, HasNoCaps}
 use Rattle.branch_tree.specs.Leaf.{leaf_total, replaced_in}
 use Rattle.tree_search.specs.declared.answer.Answer.{Answer}
 use Rattle.tree_search.specs.Made.{IsMade}
-use Rattle.tree_search.specs.Answer.{cost_in, plan_in, tree_in, made_in, certificate_in, IsCauseOf}
+use Rattle.tree_search.specs.Answer.{HasFreeCount, cost_in, plan_in, tree_in, made_in, certificate_in, IsCauseOf}
 use Rattle.tree_search.specs.Working.{ClosesWith, IsSoughtAt, IsGrownPart}
 
 -- a leaf that may be worked
@@ -25,7 +25,7 @@ pub record HasEnded (I : Instance) (plan : Option Plan) (budget made : ℕ) (pat
   pub fit : DualsFit I d
   pub ray : d.q ≡ 0 → pos 1 ≤ℤ bound_of I path d
   pub above : 1 ≤ d.q → (pos 0 -ℤ pos d.q) <ℤ bound_of I path d
-  pub some : 1 ≤ d.q → IsSome plan
+  pub some : 1 ≤ d.q → HasNoCaps I → HasFreeCount I → IsSome plan
   pub sought : 1 ≤ d.q → IsSoughtAt I plan path d
   pub ends : ClosesWith I plan path d ⊎ (budget < made + 2)
 

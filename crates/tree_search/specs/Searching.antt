@@ -5,10 +5,9 @@ use Rattle.location_terms.specs.Instance.{Instance}
 use Rattle.dual_value.specs.Prepared.{Prepared}
 use Rattle.lane_order.specs.Order.{Order, IsOrderOf}
 use Rattle.dual_steps.specs.Sizes.{Sizes, sizes_of}
-use Rattle.plan_search.specs.InBox.{IsPathOf, HasNoCaps}
-use Rattle.tree_search.specs.Answer.{HasFreeCount}
+use Rattle.plan_search.specs.InBox.{IsPathOf}
 use Rattle.tree_search.specs.Best.{Best, best_code, Improves}
-use Rattle.tree_search.specs.Making.{Making, making_code, Makes, StaysMaking}
+use Rattle.tree_search.specs.Making.{Making, making_code, IsMakerFor, Makes, StaysMaking}
 
 -- the best plan, and what is found of the leaf at work
 pub record Searching : Type 0 where
@@ -19,16 +18,10 @@ pub record Searching : Type 0 where
 abbrev pub searching_code : Coded Searching
 searching_code = code_by (Best × Making) (coded× best_code making_code) (λ s. (s.best, s.leaf)) (λ p. record { best = p.0; leaf = p.1 }) (λ _. refl)
 
--- So far instances are searched in which no site has a capacity and any number of sites may be open.
-pub record IsWorkable (I : Instance) : Type 0 where
-  pub no_caps : HasNoCaps I
-  pub free_count : HasFreeCount I
-
 -- what a search works with is for the instance of its plan
 pub record IsSearch (o : Order) (best : Best) (leaf : Making) (helpers : Sizes) : Type 0 where
   pub order : IsOrderOf o best.instance
-  pub workable : IsWorkable best.instance
-  pub leaf_sizes : leaf.sizes ≡ sizes_of best.instance
+  pub maker : IsMakerFor best.instance leaf
   pub sizes : helpers ≡ sizes_of best.instance
 
 -- the search is at work in this box

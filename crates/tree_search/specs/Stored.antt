@@ -1,37 +1,26 @@
 -- How what is found of a leaf is stored.
-use Rattle.std.specs.Prelude.{◌≡◌, ◌≤◌, All, length, unsigned_abs, if◌then◌else◌}
-use Rattle.location_terms.specs.Instance.{Instance}
-use Rattle.location_terms.specs.declared.limits.TheConstants.{MAX_SCALE, MAX_VALUE}
-use Rattle.dual_value.specs.Zeros.{zeros}
+use Rattle.std.specs.Prelude.{◌≡◌, ◌≤◌, length, unsigned_abs}
+use Rattle.location_terms.specs.Bound.{Duals}
+use Rattle.location_terms.specs.declared.limits.TheConstants.{MAX_SCALE}
 use Rattle.dual_value.specs.declared.bounds.TheConstants.{MAX_BOUND}
-use Rattle.dual_adjust.specs.Present.{HaveSamePrices}
-use Rattle.dual_steps.specs.Sizes.{Sizes, sizes_of}
 use Rattle.tree_search.specs.Making.{Making}
 use Rattle.tree_search.specs.declared.leaf_maker.LeafMaker.TheInside.{Inside}
 
-abbrev pub sizes_in : Inside → Sizes
-sizes_in a = record { sites = length a.alike.work.slacks; customers = length a.alike.work.blockers }
-
 abbrev pub making_of : Inside → Making
-making_of a = record {
-  plain = a.plain;
-  plain_bound = a.plain_bound;
-  hint = a.hint.items;
-  best = if a.is_other then a.other else a.alike;
-  bound = a.bound;
-  sizes = sizes_in a;
-}
+making_of a = record { zeros = a.zeros; plain = a.plain; plain_bound = a.plain_bound; hint = a.hint.items; best = a.best; bound = a.bound }
 
--- for each instance of these sizes the zeros are its zeros; the plain ascent and the duals that are alike have their prices, and bounds and scales are within their limits
+-- duals for as many customers and sites
+pub record AreAsLong (d e : Duals) : Type 0 where
+  pub customers : length e.v ≡ length d.v
+  pub sites : length e.u ≡ length d.u
+
+-- all duals and arrays are for the customers and sites of the zeros, and bounds and scales are within their limits
 pub record AreAlike (a : Inside) : Type 0 where
-  pub zero : (I : Instance) → sizes_in a ≡ sizes_of I → a.zeros ≡ zeros I 1
-  pub scale : a.zeros.q ≡ 1
-  pub plain_prices : HaveSamePrices a.zeros a.plain
-  pub plain_customers : length a.plain.v ≡ length a.zeros.v
-  pub same_prices : HaveSamePrices a.zeros a.alike.duals
-  pub customers : length a.alike.duals.v ≡ length a.zeros.v
-  pub small : All (λ v. unsigned_abs v ≤ MAX_VALUE) a.alike.duals.v
-  pub other_scaled : 1 ≤ a.other.duals.q
-  pub other_scale : a.other.duals.q ≤ MAX_SCALE
+  pub plain : AreAsLong a.zeros a.plain
+  pub best : AreAsLong a.zeros a.best.duals
+  pub slacks : length a.best.work.slacks ≡ length a.zeros.u
+  pub blockers : length a.best.work.blockers ≡ length a.zeros.v
+  pub scaled : 1 ≤ a.best.duals.q
+  pub scale : a.best.duals.q ≤ MAX_SCALE
   pub plain_bound : unsigned_abs a.plain_bound ≤ MAX_BOUND
   pub bound : unsigned_abs a.bound ≤ MAX_BOUND

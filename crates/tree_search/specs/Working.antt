@@ -13,7 +13,8 @@ use Rattle.branch_tree.specs.declared.split.Split.{Split}
 use Rattle.branch_tree.specs.declared.split.Split.TheVariants.{Site, Lane}
 use Rattle.branch_tree.specs.Growing.{Growing}
 use Rattle.branch_tree.specs.Built.{IsBuiltOf, IsBuiltIn, IsDoneIn}
-use Rattle.tree_search.specs.Made.{IsMadeLeaf, IsOpenBox, IsFreeSite}
+use Rattle.dual_ascent.specs.Levels.{servers}
+use Rattle.tree_search.specs.Made.{has_cap, IsMadeLeaf, IsOpenBox, IsFreeSite, IsOpenLane}
 use Rattle.tree_search.specs.Making.{LowersNone}
 use Rattle.tree_search.specs.Answer.{cost_in}
 
@@ -31,22 +32,32 @@ IsSoughtAt I plan path d = (P : Plan) → packed I path (tight_sites I path d) �
 abbrev pub HasNoFreeSite : Instance → Path → Type 0
 HasNoFreeSite I path = (i : ℕ) → i < length I.sites → IsFalse (is_free path (site_at I i))
 
+-- Nothing is left to decide in the box: no site is free and, where some site has a capacity, each customer has at most one allowed lane.
+pub record IsSettled (I : Instance) (path : Path) : Type 0 where
+  pub sites : HasNoFreeSite I path
+  pub lanes : IsTrue (has_cap I) → (j : ℕ) → j < length I.customers → length (servers I path j) ≤ 1
+
+-- the box may be split so
+abbrev pub IsOpenSplit : Instance → Path → Split → Type 0
+IsOpenSplit I path (Site s) = IsFreeSite I path s
+IsOpenSplit I path (Lane s c) = IsOpenLane I path s c
+
 -- the best duals close the box, or a plan was sought where the plain ascent is tight
 abbrev pub IsPressed : Instance → Option Plan → Path → Duals → Duals → Type 0
 IsPressed I plan path plain best = ClosesWith I plan path best ⊎ IsSoughtAt I plan path plain
 
--- why a box that may be split is left whole, or why it is split on this site
-pub record IsVerdict (I : Instance) (plan : Option Plan) (may_split : Bool) (path : Path) (d : Duals) (split : Option ℕ) : Type 0 where
+-- why a box that may be split is left whole, or why it is split so
+pub record IsVerdict (I : Instance) (plan : Option Plan) (may_split : Bool) (path : Path) (d : Duals) (split : Option Split) : Type 0 where
   pub sought : 1 ≤ d.q → IsSoughtAt I plan path d
-  pub whole : split ≡ None → ClosesWith I plan path d ⊎ (IsFalse may_split ⊎ HasNoFreeSite I path)
-  pub halved : IfSome split (λ s. (ClosesWith I plan path d → ⊥) × IsTrue may_split × IsFreeSite I path s)
+  pub whole : split ≡ None → ClosesWith I plan path d ⊎ (IsFalse may_split ⊎ IsSettled I path)
+  pub halved : IfSome split (λ s. (ClosesWith I plan path d → ⊥) × IsTrue may_split × IsOpenSplit I path s)
 
--- what working a box gives: the duals of a leaf that is made, and the site on which the box is to be split
-pub record IsWorked (I : Instance) (plan : Option Plan) (may_split : Bool) (old : Duals) (path : Path) (d : Duals) (split : Option ℕ) : Type 0 where
+-- what working a box gives: the duals of a leaf that is made, and how the box is to be split
+pub record IsWorked (I : Instance) (plan : Option Plan) (may_split : Bool) (old : Duals) (path : Path) (d : Duals) (split : Option Split) : Type 0 where
   pub made : (old_path : Path) → LowersNone I old_path path → IsMadeLeaf I old_path old path d
   pub sought : 1 ≤ d.q → IsSoughtAt I plan path d
   pub whole : split ≡ None → ClosesWith I plan path d ⊎ IsFalse may_split
-  pub halved : IfSome split (λ s. IsTrue may_split × IsFreeSite I path s × ((handed : Option Plan) → IsNoWorse I plan handed → IsOpenBox I (cost_in I handed) path))
+  pub halved : IfSome split (λ s. IsTrue may_split × IsOpenSplit I path s × ((handed : Option Plan) → IsNoWorse I plan handed → IsOpenBox I (cost_in I handed) path))
 
 -- The tree that grows in the place of a leaf, whose path and duals are `base` and `old`.
 
@@ -56,10 +67,9 @@ pub record IsDoneLeaf (I : Instance) (base : Path) (old : Duals) (plan : Option 
   pub sought : 1 ≤ d.q → IsSoughtAt I plan path d
   pub ends : ClosesWith I plan path d ⊎ (limit < nodes + 2)
 
--- a split of an open box on a free site
-abbrev pub IsSiteSplit : Instance → Option ℕ → Path → Split → Type 0
-IsSiteSplit I target path (Site s) = IsOpenBox I target path × IsFreeSite I path s
-IsSiteSplit I target path (Lane s c) = ⊥
+-- a split of an open box
+abbrev pub IsDueSplit : Instance → Option ℕ → Path → Split → Type 0
+IsDueSplit I target path split = IsOpenBox I target path × IsOpenSplit I path split
 
 -- a leaf whose path goes on from the base
 pub record IsReached (I : Instance) (base : Path) (path : Path) (d : Duals) : Type 0 where
@@ -76,7 +86,7 @@ pub record IsGrowing (I : Instance) (base : Path) (old : Duals) (handed plan : O
   pub sites : g.tree.sites ≡ site_ids I
   pub customers : g.tree.customers ≡ customer_ids I
   pub reached : IsBuiltIn (IsReached I base) AnySplit g
-  pub done : IsDoneIn (IsDoneLeaf I base old plan limit (nodes_of g.tree)) (IsSiteSplit I (cost_in I handed)) g
+  pub done : IsDoneIn (IsDoneLeaf I base old plan limit (nodes_of g.tree)) (IsDueSplit I (cost_in I handed)) g
   pub within : nodes_of g.tree ≤ limit
   pub no_worse : IsNoWorse I plan handed
 
@@ -88,5 +98,5 @@ steps_left limit g = (limit - nodes_of g.tree) + g.left
 pub record IsGrownPart (I : Instance) (base : Path) (old : Duals) (handed plan : Option Plan) (limit : ℕ) (t : Tree) : Type 0 where
   pub sites : t.sites ≡ site_ids I
   pub customers : t.customers ≡ customer_ids I
-  pub root : IsBuiltOf (IsDoneLeaf I base old plan limit (nodes_of t)) (IsSiteSplit I (cost_in I handed)) base t.root
+  pub root : IsBuiltOf (IsDoneLeaf I base old plan limit (nodes_of t)) (IsDueSplit I (cost_in I handed)) base t.root
   pub within : nodes_of t ≤ limit

@@ -3,8 +3,7 @@ ghost use Rattle.std.specs.Prelude.{◌≡◌, ℕ, ◌+◌, ◌*◌, ◌^◌, �
 ghost use Rattle.location_terms.specs.Fit.{DualsFit};
 ghost use Rattle.location_terms.specs.Tree.{StandsOn, leaves_of, nodes_of};
 ghost use Rattle.lane_order.specs.Order.{IsOrderOf};
-ghost use Rattle.plan_search.specs.InBox.{HasNoCaps};
-ghost use Rattle.tree_search.specs.Answer.{HasFreeCount, AreHeld, IsSearchStart, IsAnswerTo, cost_in};
+ghost use Rattle.tree_search.specs.Answer.{AreHeld, IsSearchStart, IsAnswerTo, cost_in};
 ghost use Rattle.tree_search.specs.Best.{Improves};
 ghost use Rattle.tree_search.specs.Regrown.{IsKnownLeaf, HaveEnded, IsGrownAt, IsRegrownFrom, Answers};
 
@@ -33,9 +32,8 @@ pub fn max_nodes(inst: &Instance) -> u32
 ///
 /// A handed plan is feasible, and the answer's plan costs at most as much. `held` says of each leaf of
 /// the tree, in preorder, whether it closes against the handed plan's cost, or, where no plan is handed,
-/// without a target. Such a leaf stays as it is; each other one is replaced, whatever the budget is. So
-/// far no site may have a capacity, and any number of sites may be open. It fails only where memory runs
-/// out.
+/// without a target. Such a leaf stays as it is; each other one is replaced, whatever the budget is. It
+/// fails only where memory runs out.
 pub fn grow(
     alloc: Global,
     inst: &Instance,
@@ -47,8 +45,6 @@ pub fn grow(
 ) -> Result<Answer, NoMemory>
     requires order { IsOrderOf order.now inst.now }
     requires start { IsSearchStart inst.now tree held.now plan budget }
-    requires no_caps { HasNoCaps inst.now }
-    requires free_count { HasFreeCount inst.now }
     ensures { IfOk result (IsAnswerTo inst.now tree plan budget) }
 {
     // An instance is valid, so that the numbers of nodes are small.

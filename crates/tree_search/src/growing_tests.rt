@@ -3,10 +3,10 @@ ghost use Rattle.location_terms.specs.Plan.{IsFeasible};
 ghost use Rattle.location_terms.specs.Fit.{DualsFit, Closes};
 ghost use Rattle.location_terms.specs.Tree.{StandsOn, leaves_of};
 ghost use Rattle.location_terms.specs.Certificate.{IsAccepted};
-ghost use Rattle.tree_search.specs.Answer.{HasFreeCount, AreHeld, certificate_in, cost_in};
+ghost use Rattle.tree_search.specs.Answer.{AreHeld, certificate_in, cost_in};
 
 use crate::incumbent::plan_cost;
-use crate::tests::{customer, has_no_caps, ring, site};
+use crate::tests::{customer, ring, site};
 use crate::{Answer, grow, max_nodes};
 use branch_tree::Tree;
 use dual_value::{bound, closes};
@@ -31,14 +31,6 @@ fn cut_off(alloc: Global) -> Result<Instance, NoMemory> {
     let sites = vec![in alloc; site(1, 2_000_000, lanes)]?;
     let custs = vec![in alloc; customer(1), customer(2), customer(3)]?;
     Instance::from_parts(alloc, 0, 1, 2, 4, custs, sites)
-}
-
-// Whether the number of open sites is free.
-fn has_free_count(inst: &Instance) -> bool
-    ensures { IsTrue result → HasFreeCount inst.now }
-{
-    let (lo, hi) = inst.count();
-    lo == 0 && hi as usize >= inst.sites()
 }
 
 // Whether leaf `k` of the tree closes against the target, or without one.
@@ -69,8 +61,7 @@ fn held_in(
     Ok(held)
 }
 
-// What a search from this tree answers, where no site has a capacity, the number of open sites is free
-// and the tree and the budget are allowed.
+// What a search from this tree answers, where the tree and the budget are allowed.
 fn searched_from(
     alloc: Global,
     inst: &Instance,
@@ -83,12 +74,6 @@ fn searched_from(
     requires feasible { IfSome plan (IsFeasible inst.now) }
     ensures { IfOk result (λ found. IfSome found (λ a. IsAccepted inst.now (certificate_in inst.now a))) }
 {
-    if !has_no_caps(inst) {
-        return Ok(None);
-    }
-    if !has_free_count(inst) {
-        return Ok(None);
-    }
     if budget > max_nodes(inst) {
         return Ok(None);
     }
@@ -102,7 +87,7 @@ fn searched_from(
 }
 
 // What a search from one leaf of zeros answers.
-fn searched(
+pub(crate) fn searched(
     alloc: Global,
     inst: &Instance,
     plan: Option<Plan>,
@@ -171,7 +156,7 @@ fn is_bracket(answer: &Option<Answer>) -> bool {
 }
 
 // The optimal cost, its tree's nodes, and what the splits made.
-fn optimal(answer: &Option<Answer>) -> (u64, u32, u32) {
+pub(crate) fn optimal(answer: &Option<Answer>) -> (u64, u32, u32) {
     match answer {
         Some(
             Answer::Optimal {
@@ -185,10 +170,11 @@ fn optimal(answer: &Option<Answer>) -> (u64, u32, u32) {
     }
 }
 
-fn is_infeasible(answer: &Option<Answer>) -> bool {
+// The nodes of the tree of an answer that no plan is feasible, and what the splits made.
+pub(crate) fn infeasible(answer: &Option<Answer>) -> (u32, u32) {
     match answer {
-        Some(Answer::Infeasible { tree, made }) => tree.nodes() == 1 && *made == 0,
-        _ => false,
+        Some(Answer::Infeasible { tree, made }) => (tree.nodes(), *made),
+        _ => (0, 0),
     }
 }
 
@@ -224,11 +210,11 @@ fn keeps_ring(alloc: Global, inst: &Instance) -> Result<bool, NoMemory> {
 fn ends_at_roots(alloc: Global, pair: &Instance, cut_off: &Instance) -> Result<bool, NoMemory> {
     let optimum = searched(alloc, pair, None, 1)?;
     let none = searched(alloc, cut_off, None, 5)?;
-    Ok(optimal(&optimum) == (22_000_000, 1, 0) && is_infeasible(&none))
+    Ok(optimal(&optimum) == (22_000_000, 1, 0) && infeasible(&none) == (1, 0))
 }
 
 // Settles the site at this place, where there is one.
-fn settle(inst: &mut Instance, site: usize, status: SiteStatus) {
+pub(crate) fn settle(inst: &mut Instance, site: usize, status: SiteStatus) {
     if site < inst.sites() {
         inst.set_status(site, status);
     }
@@ -253,7 +239,7 @@ fn settles_pair(alloc: Global, pair: &mut Instance) -> Result<bool, NoMemory> {
     let closed = optimum_with(alloc, pair, 0, SiteStatus::MustClose)?;
     settle(pair, 1, SiteStatus::MustClose);
     let none = searched(alloc, pair, None, 1)?;
-    Ok(opened == (26_000_000, 1, 0) && closed == (28_000_000, 1, 0) && is_infeasible(&none))
+    Ok(opened == (26_000_000, 1, 0) && closed == (28_000_000, 1, 0) && infeasible(&none) == (1, 0))
 }
 
 // Whether leaf `k` of an optimal answer's tree shows without a target that no plan is in its box.

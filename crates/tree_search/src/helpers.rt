@@ -2,19 +2,22 @@
 ghost use Rattle.std.specs.Prelude.{◌≡◌, IfOk, IfSome, length};
 ghost use Rattle.location_terms.specs.Plan.{IsFeasible};
 ghost use Rattle.lane_order.specs.Order.{IsOrderOf};
-ghost use Rattle.dual_steps.specs.Sizes.{sizes_of};
+ghost use Rattle.dual_steps.specs.Sizes.{Suits, sizes_of};
 ghost use Rattle.plan_search.specs.InBox.{IsPathOf};
 
 use crate::incumbent::Incumbent;
+use crate::prices::{Prices, widen};
 use crate::tried::Tried;
 use dual_steps::Steps;
-use dual_value::PreparedBox;
+use dual_value::{Duals, PreparedBox};
 use instance_store::{Instance, NoMemory};
 use lane_order::LaneOrder;
 use plan_meaning::Plan;
-use plan_search::{LocalSearch, improved_set};
+use plan_search::{LocalSearch, has_no_caps, improved_set};
+use side_multipliers::{LanePlace, LaneShare};
 use std::alloc::Global;
 use std::marker::Model;
+use std::num::nearest_u64_to_f64;
 
 /// The sites from which a plan is sought.
 #[derive(Clone, Copy)]
@@ -31,6 +34,8 @@ pub(crate) enum Hint {
 #[derive(Drop)]
 pub(crate) struct Helpers {
     pub(crate) steps: Steps,
+    // Where some site has a capacity.
+    pub(crate) prices: Option<Prices>,
     local: LocalSearch,
     // Open sites, by place.
     flags: Vec<bool>,
@@ -42,11 +47,11 @@ impl Model for Helpers {
 
     ghost Value = { Sizes };
 
-    ghost use Rattle.std.specs.Prelude.{◌≡◌, length};
+    ghost use Rattle.tree_search.specs.Helping.{AreForSteps};
 
     ghost view = { λ a. a.steps };
 
-    ghost invariant = { λ a. length a.flags.items ≡ a.steps.sites };
+    ghost invariant = { AreForSteps };
 }
 
 impl Helpers {
@@ -58,8 +63,14 @@ impl Helpers {
         let steps = Steps::of(alloc, inst, order)?;
         let local = LocalSearch::of(alloc, inst)?;
         let flags = vec![in alloc; false; inst.sites()]?;
+        let prices = if has_no_caps(inst) {
+            None
+        } else {
+            Some(Prices::of(alloc, inst, order)?)
+        };
         Ok(Helpers {
             steps,
+            prices,
             local,
             flags,
             tried: Tried::none(),
@@ -74,11 +85,88 @@ impl Helpers {
         self.steps.enter(boxed);
     }
 
-    /// The best duals of the steps, as they were rounded last, by place.
-    pub(crate) fn values(&self) -> &[i64]
-        ensures { length result.now ≡ self.now.customers }
+    /// Goes into another box of the instance with the steps of prices, which begin anew from these duals.
+    pub(crate) fn enter_prices(&mut self, boxed: &PreparedBox<'_>, order: &LaneOrder, duals: &Duals)
+        requires order { IsOrderOf order.now boxed.now.instance }
+        requires sizes { self.old ≡ sizes_of boxed.now.instance }
+        ensures { self.new ≡ self.old }
     {
-        self.steps.values()
+        if let Some(prices) = &mut self.prices {
+            prices.enter(boxed, order, duals);
+        }
+    }
+
+    /// Whether no site is free in the box of the steps of prices.
+    pub(crate) fn is_settled(&self) -> bool {
+        match &self.prices {
+            None => false,
+            Some(prices) => prices.is_settled(),
+        }
+    }
+
+    /// Takes steps of prices towards what the best plan costs, if one is known, up to so many.
+    pub(crate) fn step_prices(&mut self, cost: Option<u64>, steps: u32)
+        ensures { self.new ≡ self.old }
+    {
+        if let Some(prices) = &mut self.prices {
+            let target = target_of(cost, prices.bound());
+            prices.step(target, steps);
+        }
+    }
+
+    /// A lane of a box without free sites that stands in the way of duals which close it against what the
+    /// best plan costs.
+    pub(crate) fn obstacle(&mut self, cost: Option<u64>) -> Option<LanePlace>
+        ensures { self.new ≡ self.old }
+    {
+        match &mut self.prices {
+            None => None,
+            Some(prices) => prices.obstacle(target_of(cost, f64::MAX)),
+        }
+    }
+
+    /// How often each site is taken by smoothed steps, between 0 and 1, by place.
+    pub(crate) fn shares(&self) -> &[f64]
+        ensures { length result.now ≡ self.now.sites }
+    {
+        shares_of(&self.steps, &self.prices)
+    }
+
+    /// The best duals of the steps, rounded to parts of a millionth, `scale` of them. It fails only where
+    /// memory runs out.
+    pub(crate) fn rounded(
+        &mut self,
+        alloc: Global,
+        order: &LaneOrder,
+        scale: u32,
+    ) -> Result<Duals, NoMemory>
+        requires { Suits self.old order.now }
+        ensures customers { IfOk result (λ d. length d.v ≡ self.old.customers) }
+        ensures sites { IfOk result (λ d. length d.u ≡ self.old.sites) }
+        ensures same { self.new ≡ self.old }
+    {
+        match &mut self.prices {
+            Some(prices) => prices.rounded(alloc, scale),
+            None => rounded_steps(alloc, order, &mut self.steps, scale),
+        }
+    }
+
+    /// Finds out which site steps in a box without free sites take most often for each customer.
+    pub(crate) fn weigh_lanes(&mut self)
+        ensures { self.new ≡ self.old }
+    {
+        if let Some(prices) = &mut self.prices {
+            prices.weigh_lanes();
+        }
+    }
+
+    /// For each customer the site that steps take most often for it, as the lanes were weighed last, by place;
+    /// none where no site has a capacity.
+    pub(crate) fn lane_shares(&self) -> &[LaneShare] {
+        match &self.prices {
+            Some(prices) => prices.lane_shares(),
+            None => &[],
+        }
     }
 
     /// Lets the steps refer to the best plan.
@@ -97,20 +185,28 @@ impl Helpers {
     {
         match hint {
             Hint::Tight => flag_tight(slacks, &mut self.flags),
-            Hint::Taken => self.flags.copy_from_slice(self.steps.open()),
-            Hint::Shared(least) => flag_shared(self.steps.shares(), least, &mut self.flags),
+            Hint::Taken => self
+                .flags
+                .copy_from_slice(open_sites(&self.steps, &self.prices)),
+            Hint::Shared(least) => flag_shared(
+                shares_of(&self.steps, &self.prices),
+                least,
+                &mut self.flags,
+            ),
         }
     }
 
-    /// A plan in the box that costs less than `limit` millionths, sought from the flagged sites: none
-    /// where none is found, or where one was sought from them before. It fails only where memory runs out.
+    /// A plan in the box that is sought from the flagged sites, and costs less than `limit` millionths where
+    /// there is a limit: none where none is found, or where one was sought from them before. It fails only
+    /// where memory runs out.
     pub(crate) fn plan_of_flags(
         &mut self,
         alloc: Global,
         boxed: &PreparedBox<'_>,
         order: &LaneOrder,
-        limit: u64,
+        limit: Option<u64>,
     ) -> Result<Option<Plan>, NoMemory>
+        requires instance { self.old ≡ sizes_of boxed.now.instance }
         requires order { IsOrderOf order.now boxed.now.instance }
         requires path { IsPathOf boxed.now.instance boxed.now.path }
         ensures feasible { IfOk result (λ plan. IfSome plan (IsFeasible boxed.now.instance)) }
@@ -122,6 +218,54 @@ impl Helpers {
         let plan = improved_set(alloc, boxed, order, &mut self.local, &self.flags, limit)?;
         Ok(plan)
     }
+}
+
+// What steps aim at: what the best plan costs, in millionths, and where none is known what it may cost.
+fn target_of(cost: Option<u64>, bound: f64) -> f64 {
+    match cost {
+        Some(cost) => nearest_u64_to_f64(cost),
+        None => 1.5 * bound.max(1.0),
+    }
+}
+
+fn shares_of<'s>(steps: &'s Steps, prices: &'s Option<Prices>) -> &'s [f64]
+    requires { IfSome prices.now (λ p. p ≡ steps.now) }
+    ensures { length result.now ≡ steps.now.sites }
+{
+    match prices {
+        None => steps.shares(),
+        Some(prices) => prices.shares(),
+    }
+}
+
+fn open_sites<'s>(steps: &'s Steps, prices: &'s Option<Prices>) -> &'s [bool]
+    requires { IfSome prices.now (λ p. p ≡ steps.now) }
+    ensures { length result.now ≡ steps.now.sites }
+{
+    match prices {
+        None => steps.open(),
+        Some(prices) => prices.open(),
+    }
+}
+
+// The best duals of the steps where no site has a capacity, rounded.
+fn rounded_steps(
+    alloc: Global,
+    order: &LaneOrder,
+    steps: &mut Steps,
+    scale: u32,
+) -> Result<Duals, NoMemory>
+    requires { Suits steps.old order.now }
+    ensures customers { IfOk result (λ d. length d.v ≡ steps.old.customers) }
+    ensures sites { IfOk result (λ d. length d.u ≡ steps.old.sites) }
+    ensures same { steps.new ≡ steps.old }
+{
+    steps.round(order, scale);
+    let mut values = vec![in alloc; 0; steps.values().len()]?;
+    widen(steps.values(), &mut values);
+    let prices = vec![in alloc; 0; steps.shares().len()]?;
+    let extra = i128::from(steps.count_price());
+    Ok(Duals::from_lists(scale, extra, values, prices))
 }
 
 fn flag_opened(incumbent: &Incumbent<'_>, flags: &mut [bool])

@@ -8,8 +8,8 @@ ghost use Rattle.tree_search.specs.Best.{Improves};
 ghost use Rattle.tree_search.specs.Working.{IsGrowing, IsGrownPart, steps_left};
 
 use crate::search::Search;
-use crate::work::work;
-use branch_tree::{Growth, Split, Tree};
+use crate::work::{Worked, work};
+use branch_tree::{Growth, Tree};
 use dual_value::{Duals, Path};
 use instance_store::NoMemory;
 
@@ -56,14 +56,15 @@ fn step(
     let _sites = search.instance().sites();
     let may_split = growth.nodes() + 2 <= limit;
     let worked = work(search, growth.path(), replaced, growth.duals(), may_split)?;
-    match worked.split {
+    let Worked { duals, split } = worked;
+    match split {
         None => {
-            growth.set_duals(worked.duals);
+            growth.set_duals(duals);
             growth.finish();
         }
-        Some(site) => {
-            let first = worked.duals.copied()?;
-            growth.split(Split::Site(site), first, worked.duals)?;
+        Some(split) => {
+            let first = duals.copied()?;
+            growth.split(split, first, duals)?;
         }
     }
     Ok(())

@@ -1,44 +1,39 @@
 //! The duals of a leaf while it is made.
-ghost use Rattle.std.specs.Prelude.{◌≡◌, ◌≢◌, ◌↔◌, ◌⊎◌, ◌<◌, IfOk, OnOk, IfSome, IfNone, IsTrue, length};
-ghost use Rattle.location_terms.specs.Instance.{IsValid};
+ghost use Rattle.std.specs.Prelude.{◌≡◌, ◌↔◌, ◌⊎◌, IfOk, OnOk, IsTrue};
 ghost use Rattle.location_terms.specs.Box.{Path as Decisions};
 ghost use Rattle.location_terms.specs.Bound.{Duals as Prices, bound_of};
 ghost use Rattle.location_terms.specs.Fit.{DualsFit, AreTame, BoundCloses};
 ghost use Rattle.lane_order.specs.Order.{IsOrderOf};
-ghost use Rattle.dual_ascent.specs.Levels.{servers};
 ghost use Rattle.dual_adjust.specs.Slackness.{tight_sites};
-ghost use Rattle.dual_steps.specs.Sizes.{sizes_of};
 ghost use Rattle.dual_value.specs.Scales.{IsAtLeast};
 ghost use Rattle.dual_value.specs.Zeros.{zeros};
-ghost use Rattle.plan_search.specs.InBox.{HasNoCaps};
-ghost use Rattle.tree_search.specs.Made.{AreServed, IsMadeLeaf, IsMadeScale};
-ghost use Rattle.tree_search.specs.Making.{LowersNone, IsMaking, Makes, StaysMaking};
+ghost use Rattle.tree_search.specs.Made.{AreServed, IsMadeLeaf, IsMadeScale, plain_scale};
+ghost use Rattle.tree_search.specs.Making.{LowersNone, IsMakerFor, IsMaking, Makes, StaysMaking};
 
-use crate::ascents::{ascent_of, zeros_at};
 use dual_adjust::{Trials, adjust_once};
 use dual_value::{Duals, PreparedBox, closes, is_greater, tame};
 use instance_store::{Instance, NoMemory, SiteId};
 use lane_order::LaneOrder;
 use location_terms::MAX_SCALE;
+use plan_search::has_no_caps;
 use std::alloc::Global;
 use std::marker::Model;
 
+// The scale of plain ascents where some site has a capacity.
+const CAPACITY_SCALE: u32 = 1000;
+
 /// What is found of the leaf at work: the plain ascent of its box, and the best duals so far. It is made
-/// once for a search.
+/// once for a search, and takes no memory from leaf to leaf.
 #[derive(Drop)]
 pub struct LeafMaker {
-    // Duals of 0 at scale 1, from which the plain ascents start.
+    // Duals of 0, from which the plain ascents start.
     zeros: Duals,
     plain: Duals,
     plain_bound: i128,
     // The tight sites of the plain ascent.
     hint: Vec<SiteId>,
-    // Duals with the prices and the scale of the plain ascent.
-    alike: Trials,
-    // Duals of any made scale and of any prices.
-    other: Trials,
-    // Which of the two are the best, and their bound.
-    is_other: bool,
+    // The best duals, and their bound.
+    best: Trials,
     bound: i128,
 }
 
@@ -59,20 +54,18 @@ impl Model for LeafMaker {
 impl LeafMaker {
     /// What it takes to make leaves of this instance. It fails only where memory runs out.
     pub fn of(alloc: Global, inst: &Instance) -> Result<LeafMaker, NoMemory>
-        ensures { IfOk result (λ m. m.sizes ≡ sizes_of inst.now) }
+        ensures { IfOk result (IsMakerFor inst.now) }
     {
-        let zeros = Duals::zeros(alloc, inst, 1)?;
+        let zeros = Duals::zeros(alloc, inst, plain_scale(inst))?;
         let plain = zeros.copied()?;
-        let alike = zeros_at(alloc, inst, 1)?;
-        let other = zeros_at(alloc, inst, 1)?;
+        let start = zeros.copied()?;
+        let best = Trials::of(alloc, inst, start)?;
         Ok(LeafMaker {
             zeros,
             plain,
             plain_bound: 0,
             hint: Vec::new(alloc),
-            alike,
-            other,
-            is_other: false,
+            best,
             bound: 0,
         })
     }
@@ -91,18 +84,17 @@ impl LeafMaker {
         requires order { IsOrderOf order.now boxed.now.instance }
         requires old { DualsFit boxed.now.instance old.now }
         requires near { DualsFit boxed.now.instance near.now }
-        requires no_caps { HasNoCaps boxed.now.instance }
-        requires sizes { self.old.sizes ≡ sizes_of boxed.now.instance }
+        requires maker { IsMakerFor boxed.now.instance self.old }
         ensures making { OnOk result ((old_path : Decisions) → LowersNone boxed.now.instance old_path boxed.now.path →
             IsMaking boxed.now.instance old_path old.now boxed.now.path self.new) }
-        ensures sizes { self.new.sizes ≡ self.old.sizes }
+        ensures maker { IsMakerFor boxed.now.instance self.new }
     {
         self.begin(alloc, boxed, order)?;
-        self.take(alloc, boxed, order, old)?;
+        self.take(boxed, order, old);
         if are_same(near, old) {
             return Ok(());
         }
-        self.take(alloc, boxed, order, near)?;
+        self.take(boxed, order, near);
         Ok(())
     }
 
@@ -114,106 +106,43 @@ impl LeafMaker {
         order: &LaneOrder,
     ) -> Result<(), NoMemory>
         requires order { IsOrderOf order.now boxed.now.instance }
-        requires no_caps { HasNoCaps boxed.now.instance }
-        requires sizes { self.old.sizes ≡ sizes_of boxed.now.instance }
+        requires maker { IsMakerFor boxed.now.instance self.old }
         ensures making { OnOk result (IsMaking boxed.now.instance boxed.now.path (zeros boxed.now.instance 0) boxed.now.path self.new) }
-        ensures sizes { self.new.sizes ≡ self.old.sizes }
+        ensures maker { IsMakerFor boxed.now.instance self.new }
     {
-        self.alike.copy_values(&self.zeros);
-        self.alike.ascend(boxed, order);
-        self.plain.copy_values(self.alike.duals());
-        let bound = self.alike.bound(boxed);
+        self.best.copy_from(&self.zeros);
+        self.best.ascend(boxed, order);
+        self.plain.copy_from(self.best.duals());
+        let bound = self.best.bound(boxed);
         self.plain_bound = bound;
         self.bound = bound;
-        self.is_other = false;
-        let hint = self.alike.tight_sites(alloc, boxed)?;
+        let hint = self.best.tight_sites(alloc, boxed)?;
         self.hint = hint;
         Ok(())
     }
 
-    // Takes the ascent of these duals, where they may be used and it is better than the best so far. It
-    // fails only where memory runs out.
-    fn take(
-        &mut self,
-        alloc: Global,
-        boxed: &PreparedBox<'_>,
-        order: &LaneOrder,
-        duals: &Duals,
-    ) -> Result<(), NoMemory>
+    /// Takes the ascent of these duals, where they may be used and it is better than the best so far.
+    pub fn take(&mut self, boxed: &PreparedBox<'_>, order: &LaneOrder, duals: &Duals)
         requires order { IsOrderOf order.now boxed.now.instance }
         requires fit { DualsFit boxed.now.instance duals.now }
-        requires no_caps { HasNoCaps boxed.now.instance }
         requires making { Makes boxed.now.instance boxed.now.path self.old }
-        ensures stays { OnOk result (StaysMaking boxed.now.instance boxed.now.path self.old self.new) }
-        ensures taken { OnOk result (AreTame boxed.now.instance duals.now → IsMadeScale boxed.now.instance duals.now.q →
-            IsAtLeast (bound_of boxed.now.instance boxed.now.path self.new.best.duals) self.new.best.duals.q (bound_of boxed.now.instance boxed.now.path duals.now) duals.now.q) }
-        ensures sizes { self.new.sizes ≡ self.old.sizes }
+        ensures stays { StaysMaking boxed.now.instance boxed.now.path self.old self.new }
+        ensures taken { AreTame boxed.now.instance duals.now → IsMadeScale boxed.now.instance duals.now.q →
+            IsAtLeast (bound_of boxed.now.instance boxed.now.path self.new.best.duals) self.new.best.duals.q (bound_of boxed.now.instance boxed.now.path duals.now) duals.now.q }
+        ensures zeros { self.new.zeros ≡ self.old.zeros }
     {
         // The ascent of zeros is the plain one.
         if are_same(duals, &self.zeros) {
-            return Ok(());
+            return;
         }
-        if !is_usable(duals, boxed.instance()) {
-            return Ok(());
+        if !is_usable(duals, boxed.instance(), self.zeros.q()) {
+            return;
         }
-        let risen = ascent_of(alloc, boxed, order, duals)?;
-        let bound = risen.bound(boxed);
-        if !is_greater(bound, risen.duals().q(), self.bound, self.duals().q()) {
-            return Ok(());
-        }
-        self.other = risen;
-        self.is_other = true;
-        self.bound = bound;
-        Ok(())
-    }
-
-    /// Takes these numbers, in millionths, as duals of scale 1, as far as they are in range, and lets
-    /// them ascend: whether the bound is now greater than before.
-    pub fn point(&mut self, boxed: &PreparedBox<'_>, order: &LaneOrder, values: &[i64]) -> bool
-        requires order { IsOrderOf order.now boxed.now.instance }
-        requires long { length values.now ≡ length boxed.now.instance.customers }
-        requires no_caps { HasNoCaps boxed.now.instance }
-        requires making { Makes boxed.now.instance boxed.now.path self.old }
-        ensures stays { StaysMaking boxed.now.instance boxed.now.path self.old self.new }
-        ensures sizes { self.new.sizes ≡ self.old.sizes }
-    {
         let scale = self.duals().q();
-        if !self
-            .alike
-            .rises_from(boxed, order, values, self.bound, scale)
-        {
-            return false;
+        if !self.best.rises_from(boxed, order, duals, self.bound, scale) {
+            return;
         }
-        self.is_other = false;
-        self.bound = self.alike.bound(boxed);
-        true
-    }
-
-    /// The same of duals of the greatest scale: `values` are in that fraction of a millionth. It fails
-    /// only where memory runs out.
-    pub fn point_finely(
-        &mut self,
-        alloc: Global,
-        boxed: &PreparedBox<'_>,
-        order: &LaneOrder,
-        values: &[i64],
-    ) -> Result<bool, NoMemory>
-        requires order { IsOrderOf order.now boxed.now.instance }
-        requires long { length values.now ≡ length boxed.now.instance.customers }
-        requires no_caps { HasNoCaps boxed.now.instance }
-        requires making { Makes boxed.now.instance boxed.now.path self.old }
-        ensures stays { StaysMaking boxed.now.instance boxed.now.path self.old self.new }
-        ensures sizes { self.new.sizes ≡ self.old.sizes }
-    {
-        let scale = self.duals().q();
-        let mut fine = zeros_at(alloc, boxed.instance(), MAX_SCALE)?;
-        if !fine.rises_from(boxed, order, values, self.bound, scale) {
-            return Ok(false);
-        }
-        self.bound = fine.bound(boxed);
-        self.other = fine;
-        self.is_other = true;
-        Ok(true)
+        self.bound = self.best.bound(boxed);
     }
 
     /// Sees to it that the best duals are better than the plain ascent where that gains: they are then
@@ -225,7 +154,7 @@ impl LeafMaker {
         ensures made { (old_path : Decisions) → (old : Prices) → AreServed boxed.now.instance boxed.now.path →
             IsMaking boxed.now.instance old_path old boxed.now.path self.old →
             IsMadeLeaf boxed.now.instance old_path old boxed.now.path self.new.best.duals }
-        ensures sizes { self.new.sizes ≡ self.old.sizes }
+        ensures zeros { self.new.zeros ≡ self.old.zeros }
     {
         if is_greater(
             self.bound,
@@ -235,10 +164,9 @@ impl LeafMaker {
         ) {
             return;
         }
-        self.alike.copy_values(&self.plain);
-        adjust_once(boxed, order, &mut self.alike);
-        self.is_other = false;
-        self.bound = self.alike.bound(boxed);
+        self.best.copy_from(&self.plain);
+        adjust_once(boxed, order, &mut self.best);
+        self.bound = self.best.bound(boxed);
     }
 
     /// Whether the best duals close the box against the target.
@@ -259,14 +187,14 @@ impl LeafMaker {
     pub fn duals(&self) -> &Duals
         ensures { result.now ≡ self.now.best.duals }
     {
-        self.best().duals()
+        self.best.duals()
     }
 
     /// The slacks of the sites at the best duals, by place, in millionths times their scale.
     pub fn slacks(&self) -> &[i128]
         ensures { result.now ≡ self.now.best.work.slacks }
     {
-        self.best().slacks()
+        self.best.slacks()
     }
 
     /// The tight sites of the box at the best duals. It fails only where memory runs out.
@@ -278,7 +206,7 @@ impl LeafMaker {
         requires making { Makes boxed.now.instance boxed.now.path self.now }
         ensures { IfOk result (λ sites. sites.items ≡ tight_sites boxed.now.instance boxed.now.path self.now.best.duals) }
     {
-        self.best().tight_sites(alloc, boxed)
+        self.best.tight_sites(alloc, boxed)
     }
 
     /// The tight sites of the box in the plain ascent.
@@ -286,16 +214,6 @@ impl LeafMaker {
         ensures { result.now ≡ self.now.hint }
     {
         &self.hint
-    }
-
-    // What the best duals are kept in.
-    fn best(&self) -> &Trials
-        ensures { result.now ≡ self.now.best }
-    {
-        if self.is_other {
-            return &self.other;
-        }
-        &self.alike
     }
 }
 
@@ -315,56 +233,25 @@ fn are_same(duals: &Duals, other: &Duals) -> bool
     duals.prices() == other.prices()
 }
 
-// Whether an ascent may start from these duals where no site has a capacity, and its leaf may be made.
-fn is_usable(duals: &Duals, inst: &Instance) -> bool
+// Whether an ascent may start from these duals, and its leaf may be made. `plain` is the scale of the
+// plain ascents.
+fn is_usable(duals: &Duals, inst: &Instance, plain: u32) -> bool
     requires fit { DualsFit inst.now duals.now }
-    ensures { IsTrue result ↔ (AreTame inst.now duals.now × ((duals.now.q ≡ 1) ⊎ (duals.now.q ≡ MAX_SCALE))) }
+    requires plain { plain ≡ plain_scale inst.now }
+    ensures { IsTrue result ↔ (AreTame inst.now duals.now × IsMadeScale inst.now duals.now.q) }
 {
-    (duals.q() == 1 || duals.q() == MAX_SCALE) && tame(duals, inst)
+    is_made_scale(duals.q(), plain) && tame(duals, inst)
 }
 
-/// The place of the first customer without an allowed lane in the box.
-pub fn first_unserved(boxed: &PreparedBox<'_>, order: &LaneOrder) -> Option<usize>
-    requires order { IsOrderOf order.now boxed.now.instance }
-    ensures none { IfNone result (AreServed boxed.now.instance boxed.now.path) }
-    ensures some { IfSome result (λ j. j < length boxed.now.instance.customers) }
-    ensures unserved { IfSome result (λ j. length (servers boxed.now.instance boxed.now.path j) ≡ 0) }
+fn is_made_scale(q: u32, plain: u32) -> bool
+    ensures { IsTrue result ↔ ((q ≡ plain) ⊎ ((plain ≡ 1) × (q ≡ MAX_SCALE))) }
 {
-    for cust in 0..boxed.instance().custs() {
-        if !is_served(boxed, order, cust) {
-            return Some(cust);
-        }
-    }
-    None
+    q == plain || (plain == 1 && q == MAX_SCALE)
 }
 
-/// The ray that shows a box to be empty in which the customer at place `cust` has no allowed lane: its
-/// dual is 1 at scale 0. It fails only where memory runs out.
-pub fn unserved_ray(alloc: Global, boxed: &PreparedBox<'_>, cust: usize) -> Result<Duals, NoMemory>
-    requires customer { cust < length boxed.now.instance.customers }
-    requires unserved { length (servers boxed.now.instance boxed.now.path cust) ≡ 0 }
-    ensures ray { IfOk result (λ d. d.q ≡ 0) }
-    ensures made { IfOk result (λ d. (old_path : Decisions) → (old : Prices) →
-        IsMadeLeaf boxed.now.instance old_path old boxed.now.path d) }
+// The scale of the plain ascents of the instance.
+fn plain_scale(inst: &Instance) -> u32
+    ensures { result ≡ plain_scale inst.now }
 {
-    let mut ray = Duals::zeros(alloc, boxed.instance(), 0)?;
-    ray.set_v(cust, 1);
-    Ok(ray)
-}
-
-// Whether the customer at place `cust` has an allowed lane in the box.
-fn is_served(boxed: &PreparedBox<'_>, order: &LaneOrder, cust: usize) -> bool
-    requires order { IsOrderOf order.now boxed.now.instance }
-    requires customer { cust < length boxed.now.instance.customers }
-    ensures { IsTrue result ↔ (length (servers boxed.now.instance boxed.now.path cust) ≢ 0) }
-{
-    // An instance is valid, so that a site has one place.
-    let _custs = boxed.instance().custs();
-    let demand = boxed.instance().demand(cust);
-    for lane in order.lanes(cust) {
-        if boxed.admits(lane.site as usize, cust, demand) {
-            return true;
-        }
-    }
-    false
+    if has_no_caps(inst) { 1 } else { CAPACITY_SCALE }
 }

@@ -3,8 +3,8 @@
 #![tactic(auto)]
 
 mod answer;
-mod ascents;
 mod course;
+mod forced;
 mod growing;
 mod helpers;
 mod incumbent;
@@ -13,9 +13,13 @@ mod leaf_growth;
 mod leaf_maker;
 mod limits;
 mod pointing;
+mod prices;
+mod pricing;
 mod proposing;
+mod rays;
 mod rounds;
 mod search;
+mod serving;
 mod splitting;
 mod strengthen;
 mod tried;
@@ -30,6 +34,8 @@ pub use laws::{answers_hold, searches_end};
 pub use limits::MAX_DUALS;
 pub use plan_meaning::Plan;
 
+#[cfg(test)]
+mod capped_tests;
 #[cfg(test)]
 mod growing_tests;
 #[cfg(test)]

@@ -14,28 +14,11 @@ pub(crate) fn point(search: &mut Search<'_>, boxed: &PreparedBox<'_>) -> Result<
     requires { IsAt boxed.now search.old }
     ensures { OnOk result (GoesOn boxed.now search.old search.new) }
 {
-    point_roughly(search, boxed);
+    search.point(boxed, 1)?;
     if search.closes() || !is_fine(search, boxed) {
         return Ok(());
     }
-    point_finely(search, boxed)?;
-    Ok(())
-}
-
-fn point_roughly(search: &mut Search<'_>, boxed: &PreparedBox<'_>)
-    requires { IsAt boxed.now search.old }
-    ensures { GoesOn boxed.now search.old search.new }
-{
-    search.round_steps(1);
-    search.point(boxed);
-}
-
-fn point_finely(search: &mut Search<'_>, boxed: &PreparedBox<'_>) -> Result<(), NoMemory>
-    requires { IsAt boxed.now search.old }
-    ensures { OnOk result (GoesOn boxed.now search.old search.new) }
-{
-    search.round_steps(MAX_SCALE);
-    search.point_finely(boxed)?;
+    search.point(boxed, MAX_SCALE)?;
     Ok(())
 }
 

@@ -37,7 +37,7 @@ pub(crate) fn seek(
     ensures { OnOk result (GoesOn boxed.now search.old search.new) }
 {
     search.helpers.flag(hint, search.leaf.slacks());
-    let limit = search.cost().unwrap_or(u64::MAX);
+    let limit = search.cost();
     let plan = search
         .helpers
         .plan_of_flags(search.alloc, boxed, search.order, limit)?;

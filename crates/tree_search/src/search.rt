@@ -1,20 +1,21 @@
 //! What a search has in hand from box to box.
 ghost use Rattle.std.specs.Prelude.{◌≡◌, ◌↔◌, IfOk, IfSome, IsTrue, OnOk, length};
 ghost use Rattle.location_terms.specs.Plan.{IsFeasible};
-ghost use Rattle.location_terms.specs.Fit.{BoundCloses};
+ghost use Rattle.location_terms.specs.Fit.{BoundCloses, DualsFit};
 ghost use Rattle.lane_order.specs.Order.{IsOrderOf};
-ghost use Rattle.plan_search.specs.InBox.{HasNoCaps, IsNoWorse};
-ghost use Rattle.tree_search.specs.Answer.{HasFreeCount, cost_in};
+ghost use Rattle.plan_search.specs.InBox.{IsNoWorse};
+ghost use Rattle.tree_search.specs.Answer.{cost_in};
 ghost use Rattle.tree_search.specs.Best.{Improves};
-ghost use Rattle.tree_search.specs.Searching.{GoesOn, IsAt, IsWorkable};
+ghost use Rattle.tree_search.specs.Searching.{GoesOn, IsAt};
 
 use crate::helpers::Helpers;
 use crate::incumbent::Incumbent;
 use crate::leaf_maker::LeafMaker;
-use dual_value::PreparedBox;
+use dual_value::{Duals, PreparedBox, fits};
 use instance_store::{Instance, NoMemory};
 use lane_order::LaneOrder;
 use plan_meaning::Plan;
+use side_multipliers::LanePlace;
 use std::alloc::Global;
 use std::marker::Model;
 use std::num::nearest_u64_to_f64;
@@ -39,7 +40,6 @@ impl<'a> Model for Search<'a> {
 
     ghost view = { λ a. record { best = a.incumbent; leaf = a.leaf } };
 
-    // The one place where it stands which instances can be searched so far.
     ghost invariant = { λ a. IsSearch a.order.now a.incumbent a.leaf a.helpers };
 }
 
@@ -53,7 +53,6 @@ impl<'a> Search<'a> {
         plan: Option<Plan>,
     ) -> Result<Search<'a>, NoMemory>
         requires order { IsOrderOf order.now inst.now }
-        requires workable { IsWorkable inst.now }
         requires feasible { IfSome plan (IsFeasible inst.now) }
         ensures instance { IfOk result (λ s. s.best.instance ≡ inst.now) }
         ensures plan { IfOk result (λ s. s.best.plan ≡ plan) }
@@ -72,8 +71,7 @@ impl<'a> Search<'a> {
 
     /// The instance.
     pub(crate) fn instance(&self) -> &'a Instance
-        ensures same { result.now ≡ self.now.best.instance }
-        ensures workable { IsWorkable self.now.best.instance }
+        ensures { result.now ≡ self.now.best.instance }
     {
         let _leaf = &self.leaf;
         self.incumbent.instance()
@@ -108,6 +106,16 @@ impl<'a> Search<'a> {
         self.leaf.closes(self.cost())
     }
 
+    /// Where some site has a capacity and a plan is known: by how much the bound of the leaf is too small to
+    /// close its box, in millionths times the scale of its best duals.
+    pub(crate) fn missing(&self) -> Option<i128> {
+        if self.helpers.prices.is_none() {
+            return None;
+        }
+        let goal = closing_bound(self.leaf.duals().q(), self.cost()?);
+        Some(goal.saturating_sub(self.leaf.bound()))
+    }
+
     /// Takes this plan over, if there is one, where it costs less than the best.
     pub(crate) fn offer(&mut self, plan: Option<Plan>)
         requires { IfSome plan (IsFeasible self.old.best.instance) }
@@ -136,6 +144,38 @@ impl<'a> Search<'a> {
         self.helpers.enter(boxed);
     }
 
+    /// Goes into the box with the steps of prices, from the best duals of the leaf.
+    pub(crate) fn enter_prices(&mut self, boxed: &PreparedBox<'_>)
+        requires { IsAt boxed.now self.old }
+        ensures { self.new ≡ self.old }
+    {
+        let duals = self.leaf.duals();
+        self.helpers.enter_prices(boxed, self.order, duals);
+    }
+
+    /// Takes steps of prices, up to so many.
+    pub(crate) fn step_prices(&mut self, steps: u32)
+        ensures { self.new ≡ self.old }
+    {
+        let cost = self.incumbent.cost();
+        self.helpers.step_prices(cost, steps);
+    }
+
+    /// A lane of a box without free sites that stands in the way of duals which close it.
+    pub(crate) fn obstacle(&mut self) -> Option<LanePlace>
+        ensures { self.new ≡ self.old }
+    {
+        let cost = self.incumbent.cost();
+        self.helpers.obstacle(cost)
+    }
+
+    /// Finds out which site steps in a box without free sites take most often for each customer.
+    pub(crate) fn weigh_lanes(&mut self)
+        ensures { self.new ≡ self.old }
+    {
+        self.helpers.weigh_lanes();
+    }
+
     /// Forgets what the steps have smoothed, and lets them begin with this part of a whole step.
     pub(crate) fn restart_steps(&mut self, factor: f64)
         ensures { self.new ≡ self.old }
@@ -143,31 +183,38 @@ impl<'a> Search<'a> {
         self.helpers.steps.restart(factor);
     }
 
-    /// Rounds the best duals of the steps to whole numbers, of which `scale` are a millionth.
-    pub(crate) fn round_steps(&mut self, scale: u32)
-        ensures { self.new ≡ self.old }
-    {
-        self.helpers.steps.round(scale);
-    }
-
-    /// Hands the duals of the steps, which are rounded to millionths, to the leaf.
-    pub(crate) fn point(&mut self, boxed: &PreparedBox<'_>)
-        requires { IsAt boxed.now self.old }
+    /// Proposes duals for the leaf at work: it takes their ascent where that is in range and better.
+    pub(crate) fn propose(&mut self, boxed: &PreparedBox<'_>, duals: &Duals)
+        requires at { IsAt boxed.now self.old }
+        requires customers { length duals.now.v ≡ length boxed.now.instance.customers }
+        requires sites { length duals.now.u ≡ length boxed.now.instance.sites }
         ensures { GoesOn boxed.now self.old self.new }
     {
-        self.leaf.point(boxed, self.order, self.helpers.values());
+        if !is_fit(duals, boxed.instance()) {
+            return;
+        }
+        self.leaf.take(boxed, self.order, duals);
     }
 
-    /// The same, where they are rounded to parts of the greatest scale. It fails only where memory runs
-    /// out.
-    pub(crate) fn point_finely(&mut self, boxed: &PreparedBox<'_>) -> Result<(), NoMemory>
+    /// Proposes the duals of the steps, which are rounded to parts of a millionth, `scale` of them. It fails
+    /// only where memory runs out.
+    pub(crate) fn point(&mut self, boxed: &PreparedBox<'_>, scale: u32) -> Result<(), NoMemory>
         requires { IsAt boxed.now self.old }
         ensures { OnOk result (GoesOn boxed.now self.old self.new) }
     {
-        let _gains = self
-            .leaf
-            .point_finely(self.alloc, boxed, self.order, self.helpers.values())?;
+        let duals = self.rounded(scale)?;
+        self.propose(boxed, &duals);
         Ok(())
+    }
+
+    // The best duals of the steps, rounded to parts of a millionth, `scale` of them.
+    fn rounded(&mut self, scale: u32) -> Result<Duals, NoMemory>
+        ensures customers { IfOk result (λ d. length d.v ≡ length self.old.best.instance.customers) }
+        ensures sites { IfOk result (λ d. length d.u ≡ length self.old.best.instance.sites) }
+        ensures same { self.new ≡ self.old }
+    {
+        let duals = self.helpers.rounded(self.alloc, self.order, scale)?;
+        Ok(duals)
     }
 
     /// Lets the steps refer to the best plan.
@@ -185,4 +232,18 @@ impl<'a> Search<'a> {
         let Search { incumbent, .. } = self;
         incumbent.into_plan()
     }
+}
+
+/// Whether the duals are within their limits.
+pub(crate) fn is_fit(duals: &Duals, inst: &Instance) -> bool
+    requires customers { length duals.now.v ≡ length inst.now.customers }
+    requires sites { length duals.now.u ≡ length inst.now.sites }
+    ensures { IsTrue result → DualsFit inst.now duals.now }
+{
+    fits(duals, inst).is_ok()
+}
+
+// The least bound at scale `q` that closes a box against this cost, in millionths.
+fn closing_bound(q: u32, cost: u64) -> i128 {
+    i128::from(q) * (i128::from(cost) - 1) + 1
 }

@@ -1,10 +1,18 @@
-//! The site on which a box is split.
+//! The site or the lane on which a box is split.
 ghost use Rattle.std.specs.Prelude.{◌≡◌, ◌<◌, IfNone, IfSome, IsTrue, length};
 ghost use Rattle.location_terms.specs.Instance.{site_at};
 ghost use Rattle.location_terms.specs.Box.{is_free};
-ghost use Rattle.tree_search.specs.Working.{HasNoFreeSite};
+ghost use Rattle.lane_order.specs.Order.{IsOrderOf};
+ghost use Rattle.tree_search.specs.Made.{has_cap};
+ghost use Rattle.tree_search.specs.Working.{HasNoFreeSite, IsOpenSplit, IsSettled};
 
+use crate::serving::{Service, service_of};
+use branch_tree::Split;
 use dual_value::{PreparedBox, SiteState};
+use lane_order::LaneOrder;
+use plan_search::has_no_caps;
+use side_multipliers::{LanePlace, LaneShare};
+use std::num::nearest_u64_to_f64;
 
 // Where at most so many sites are free, they are split by their slacks alone.
 const FEW: usize = 8;
@@ -12,18 +20,145 @@ const FEW: usize = 8;
 // How far a share has to be from 0 and 1 to count.
 const LEAST_DOUBT: f64 = 0.01;
 
-/// The place of the site on which the box is split: the free site whose share is farthest from 0 and 1,
-/// where one is in doubt and more than a few are free, else as by `tightest_place`.
-pub(crate) fn split_place(boxed: &PreparedBox<'_>, slacks: &[i128], shares: &[f64]) -> Option<usize>
+// Where a lane is taken by more than this share of all steps, the customer isn't in doubt.
+const SURE: f64 = 0.95;
+
+/// The split on a lane of a box without free sites: the one that stands in the way, where there is one; else
+/// the lane that steps take most often for a customer for which they are in doubt; else the cheapest lane of
+/// the first customer that has two. None where nothing is left to decide.
+pub(crate) fn split_lane(
+    boxed: &PreparedBox<'_>,
+    order: &LaneOrder,
+    obstacle: Option<LanePlace>,
+    lane_shares: &[LaneShare],
+) -> Option<Split>
+    requires order { IsOrderOf order.now boxed.now.instance }
+    requires none_free { HasNoFreeSite boxed.now.instance boxed.now.path }
+    ensures some { IfSome result (IsOpenSplit boxed.now.instance boxed.now.path) }
+    ensures none { IfNone result (IsSettled boxed.now.instance boxed.now.path) }
+{
+    if has_no_caps(boxed.instance()) {
+        return None;
+    }
+    let wanted = match obstacle {
+        None => shared_lane(boxed, lane_shares),
+        Some(lane) => Some(lane),
+    };
+    match split_on(boxed, order, wanted) {
+        None => split_first(boxed, order),
+        Some(split) => Some(split),
+    }
+}
+
+// The split on this lane, where the box allows it and another one to its customer.
+fn split_on(boxed: &PreparedBox<'_>, order: &LaneOrder, wanted: Option<LanePlace>) -> Option<Split>
+    requires order { IsOrderOf order.now boxed.now.instance }
+    requires none_free { HasNoFreeSite boxed.now.instance boxed.now.path }
+    requires capacitated { IsTrue (has_cap boxed.now.instance) }
+    ensures some { IfSome result (IsOpenSplit boxed.now.instance boxed.now.path) }
+{
+    let inst = boxed.instance();
+    let LanePlace { site, cust } = wanted?;
+    if site >= inst.sites() || cust >= inst.custs() {
+        return None;
+    }
+    let Service::Several(_) = service_of(boxed, order, cust) else {
+        return None;
+    };
+    let _cost = inst.lane(site, cust)?;
+    if boxed.admits(site, cust, inst.demand(cust)) {
+        return Some(Split::Lane(inst.site_id(site), inst.cust_id(cust)));
+    }
+    None
+}
+
+// The lane that steps take most often for the customer that is most in doubt.
+fn shared_lane(boxed: &PreparedBox<'_>, lane_shares: &[LaneShare]) -> Option<LanePlace> {
+    let cust = doubtful_customer(boxed, lane_shares)?;
+    Some(LanePlace {
+        site: lane_shares[cust].site,
+        cust,
+    })
+}
+
+// The place of the customer to split on: of those that have several lanes and no lane for nearly all of
+// their demand, the one with the greatest demand.
+fn doubtful_customer(boxed: &PreparedBox<'_>, lane_shares: &[LaneShare]) -> Option<usize>
+    ensures customer { IfSome result (λ j. j < length boxed.now.instance.customers) }
+    ensures share { IfSome result (λ j. j < length lane_shares.now) }
+{
+    let inst = boxed.instance();
+    let mut best = None;
+    let mut greatest = 0.0;
+    for cust in 0..lane_shares.len().min(inst.custs()) {
+        let lane = lane_shares[cust];
+        let doubt = if lane.share < SURE { 1.0 } else { 0.01 };
+        let weight = doubt * nearest_u64_to_f64(inst.demand(cust));
+        if lane.lanes > 1 && weight > greatest {
+            greatest = weight;
+            best = Some(cust);
+        }
+    }
+    best
+}
+
+// The split on the cheapest lane of the first customer that has two.
+fn split_first(boxed: &PreparedBox<'_>, order: &LaneOrder) -> Option<Split>
+    requires order { IsOrderOf order.now boxed.now.instance }
+    requires none_free { HasNoFreeSite boxed.now.instance boxed.now.path }
+    requires capacitated { IsTrue (has_cap boxed.now.instance) }
+    ensures some { IfSome result (IsOpenSplit boxed.now.instance boxed.now.path) }
+    ensures none { IfNone result (IsSettled boxed.now.instance boxed.now.path) }
+{
+    let inst = boxed.instance();
+    for cust in 0..inst.custs() {
+        if let Service::Several(site) = service_of(boxed, order, cust) {
+            return Some(Split::Lane(inst.site_id(site), inst.cust_id(cust)));
+        }
+    }
+    None
+}
+
+/// The place of the free site on which the box is split. Where the duals close the box of one of its two
+/// states, as far as `missing` tells, what is missing to close the box at work, it is that whose slack says
+/// so most clearly; else the site whose share is farthest from 0 and 1, where one is in doubt and more than
+/// a few are free; else as by `tightest_place`. The slacks are by place, in millionths times a scale.
+pub(crate) fn split_place(
+    boxed: &PreparedBox<'_>,
+    slacks: &[i128],
+    missing: Option<i128>,
+    shares: &[f64],
+) -> Option<usize>
     requires { length slacks.now ≡ length boxed.now.instance.sites }
     ensures within { IfSome result (λ i. i < length boxed.now.instance.sites) }
     ensures free { IfSome result (λ i. IsTrue (is_free boxed.now.path (site_at boxed.now.instance i))) }
     ensures none { IfNone result (HasNoFreeSite boxed.now.instance boxed.now.path) }
 {
+    if let Some(place) = decided_place(boxed, slacks, missing) {
+        return Some(place);
+    }
     match doubtful_place(boxed, shares) {
         None => tightest_place(boxed, slacks),
         Some(place) => Some(place),
     }
+}
+
+// The place of the free site with the greatest slack or lack that is at least `missing`.
+fn decided_place(boxed: &PreparedBox<'_>, slacks: &[i128], missing: Option<i128>) -> Option<usize>
+    requires { length slacks.now ≡ length boxed.now.instance.sites }
+    ensures within { IfSome result (λ i. i < length boxed.now.instance.sites) }
+    ensures free { IfSome result (λ i. IsTrue (is_free boxed.now.path (site_at boxed.now.instance i))) }
+{
+    let mut greatest = missing?.max(0).unsigned_abs();
+    let mut best = None;
+    for site in 0..slacks.len() {
+        let size = slacks[site].unsigned_abs();
+        if is_free(boxed, site) && size >= greatest {
+            greatest = size;
+            best = Some(site);
+        }
+    }
+    best
 }
 
 fn doubtful_place(boxed: &PreparedBox<'_>, shares: &[f64]) -> Option<usize>

@@ -3,6 +3,7 @@ ghost use Rattle.std.specs.Prelude.{◌≡◌, OnOk};
 ghost use Rattle.tree_search.specs.Searching.{IsAt, GoesOn};
 
 use crate::pointing::point;
+use crate::pricing::price;
 use crate::rounds::root_rounds;
 use crate::search::Search;
 use dual_value::PreparedBox;
@@ -35,6 +36,10 @@ pub(crate) fn strengthen(search: &mut Search<'_>, boxed: &PreparedBox<'_>) -> Re
     requires { IsAt boxed.now search.old }
     ensures { OnOk result (GoesOn boxed.now search.old search.new) }
 {
+    if search.helpers.prices.is_some() {
+        price(search, boxed)?;
+        return Ok(());
+    }
     search.enter_steps(boxed);
     if boxed.path().steps() == 0 {
         root_rounds(search, boxed)?;

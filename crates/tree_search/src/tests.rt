@@ -1,13 +1,14 @@
-ghost use Rattle.std.specs.Prelude.{◌≡◌, IsTrue, IfOk, length};
+ghost use Rattle.std.specs.Prelude.{◌≡◌, IfOk, OnOk};
 ghost use Rattle.lane_order.specs.Order.{IsOrderOf};
-ghost use Rattle.plan_search.specs.InBox.{HasNoCaps};
 ghost use Rattle.tree_search.specs.Making.{Makes};
 
-use crate::leaf_maker::{LeafMaker, first_unserved, unserved_ray};
+use crate::leaf_maker::LeafMaker;
+use crate::rays::{first_unserved, unserved_ray};
+use crate::search::is_fit;
 use dual_value::{Duals, Path, PreparedBox, bound};
 use instance_store::{CustId, CustRow, Instance, LaneRow, NoMemory, SiteId, SiteRow};
 use lane_order::LaneOrder;
-use location_terms::Decision;
+use location_terms::{Decision, MAX_SCALE};
 use std::alloc::Global;
 use std::test::Fail;
 
@@ -54,29 +55,9 @@ pub(crate) fn customer(id: u32) -> CustRow
     }
 }
 
-// Whether there are three customers and no site has a capacity.
-fn is_plain(inst: &Instance) -> bool
-    ensures caps { IsTrue result → HasNoCaps inst.now }
-    ensures customers { IsTrue result → length inst.now.customers ≡ 3 }
-{
-    inst.custs() == 3 && has_no_caps(inst)
-}
-
-pub(crate) fn has_no_caps(inst: &Instance) -> bool
-    ensures { IsTrue result → HasNoCaps inst.now }
-{
-    for site in 0..inst.sites() {
-        if inst.cap(site).is_some() {
-            return false;
-        }
-    }
-    true
-}
-
 // What is found of the box from zeros alone.
 fn maker(alloc: Global, boxed: &PreparedBox<'_>, order: &LaneOrder) -> Result<LeafMaker, NoMemory>
     requires order { IsOrderOf order.now boxed.now.instance }
-    requires no_caps { HasNoCaps boxed.now.instance }
     ensures { IfOk result (λ m. Makes boxed.now.instance boxed.now.path m) }
 {
     let zeros = Duals::zeros(alloc, boxed.instance(), 1)?;
@@ -85,8 +66,33 @@ fn maker(alloc: Global, boxed: &PreparedBox<'_>, order: &LaneOrder) -> Result<Le
     Ok(maker)
 }
 
-// Whether the plain bound is 2, a point that comes to no more is refused, and one of 3 is taken, above
-// which no finer one comes.
+// The bound, once duals of this scale and these values were proposed.
+fn bound_with(
+    alloc: Global,
+    boxed: &PreparedBox<'_>,
+    order: &LaneOrder,
+    maker: &mut LeafMaker,
+    q: u32,
+    values: &[i128],
+) -> Result<i128, NoMemory>
+    requires order { IsOrderOf order.now boxed.now.instance }
+    requires making { Makes boxed.now.instance boxed.now.path maker.old }
+    ensures making { OnOk result (Makes boxed.now.instance boxed.now.path maker.new) }
+{
+    let prices = vec![in alloc; 0; boxed.instance().sites()]?;
+    let duals = Duals::from_lists(q, 0, Vec::from_slice(alloc, values)?, prices);
+    if duals.customers() != boxed.instance().custs() {
+        return Ok(maker.bound());
+    }
+    if is_fit(&duals, boxed.instance()) {
+        maker.take(boxed, order, &duals);
+        return Ok(maker.bound());
+    }
+    Ok(maker.bound())
+}
+
+// Whether the plain bound is 2, duals that come to no more are refused, and those of another scale, and
+// those of 3 are taken, above which no finer ones come.
 fn points(
     alloc: Global,
     boxed: &PreparedBox<'_>,
@@ -94,17 +100,37 @@ fn points(
     maker: &mut LeafMaker,
 ) -> Result<bool, NoMemory>
     requires order { IsOrderOf order.now boxed.now.instance }
-    requires no_caps { HasNoCaps boxed.now.instance }
-    requires customers { length boxed.now.instance.customers ≡ 3 }
     requires making { Makes boxed.now.instance boxed.now.path maker.old }
 {
-    let plain = maker.bound() == 2_000_000;
-    let lower = maker.point(boxed, order, &[2_000_000, 0, 0]);
-    let higher = maker.point(boxed, order, &[1_000_000, 1_000_000, 1_000_000]);
-    let fine = [1_000_000_000_000, 1_000_000_000_000, 1_000_000_000_000];
-    let finer = maker.point_finely(alloc, boxed, order, &fine)?;
+    let plain = maker.bound();
+    let lower = bound_with(alloc, boxed, order, maker, 1, &[2_000_000, 0, 0])?;
+    let scaled = bound_with(
+        alloc,
+        boxed,
+        order,
+        maker,
+        2,
+        &[2_000_000, 2_000_000, 2_000_000],
+    )?;
+    let higher = bound_with(
+        alloc,
+        boxed,
+        order,
+        maker,
+        1,
+        &[1_000_000, 1_000_000, 1_000_000],
+    )?;
+    let unit = 1_000_000_000_000;
+    let finer = bound_with(alloc, boxed, order, maker, MAX_SCALE, &[unit, unit, unit])?;
     let closes = maker.closes(Some(3_000_000));
-    Ok(plain && !lower && higher && !finer && closes)
+    Ok(
+        plain == 2_000_000
+            && lower == 2_000_000
+            && scaled == 2_000_000
+            && higher == 3_000_000
+            && finer == 3_000_000
+            && closes,
+    )
 }
 
 // Whether the plain ascent, which gains, is left for a better one with just these slacks.
@@ -130,9 +156,6 @@ fn is_tight(alloc: Global, boxed: &PreparedBox<'_>, maker: &LeafMaker) -> Result
 }
 
 fn points_at_root(alloc: Global, inst: &Instance) -> Result<bool, NoMemory> {
-    if !is_plain(inst) {
-        return Ok(false);
-    }
     let root = Path::root(alloc);
     let boxed = PreparedBox::of(alloc, inst, &root)?;
     let order = LaneOrder::of(alloc, inst)?;
@@ -141,9 +164,6 @@ fn points_at_root(alloc: Global, inst: &Instance) -> Result<bool, NoMemory> {
 }
 
 fn settles_at_root(alloc: Global, inst: &Instance) -> Result<bool, NoMemory> {
-    if !is_plain(inst) {
-        return Ok(false);
-    }
     let root = Path::root(alloc);
     let boxed = PreparedBox::of(alloc, inst, &root)?;
     let order = LaneOrder::of(alloc, inst)?;

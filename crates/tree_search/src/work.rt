@@ -1,34 +1,31 @@
 //! The work on the box of one leaf: duals for it, plans, and whether it has to be split.
-ghost use Rattle.std.specs.Prelude.{◌≡◌, ◌<◌, ◌↔◌, Bool, Option, OnOk, IfOk, IfNone, IfSome, IsTrue, length};
-ghost use Rattle.location_terms.specs.Plan.{Plan as Meaning};
+ghost use Rattle.std.specs.Prelude.{◌≡◌, ◌↔◌, OnOk, IfNone, IfOk, IfSome, IsTrue};
 ghost use Rattle.location_terms.specs.Box.{Path as Decisions};
 ghost use Rattle.location_terms.specs.Bound.{Duals as Prices};
 ghost use Rattle.location_terms.specs.Fit.{DualsFit};
-ghost use Rattle.dual_ascent.specs.Levels.{servers};
-ghost use Rattle.plan_search.specs.InBox.{IsPathOf, IsNoWorse};
-ghost use Rattle.plan_search.specs.Packed.{packed};
-ghost use Rattle.tree_search.specs.Made.{AreServed, IsFreeSite};
+ghost use Rattle.plan_search.specs.InBox.{IsPathOf};
+ghost use Rattle.tree_search.specs.Rays.{IsRayless};
 ghost use Rattle.tree_search.specs.Making.{LowersNone, IsMaking};
 ghost use Rattle.tree_search.specs.Best.{Improves};
 ghost use Rattle.tree_search.specs.Searching.{IsAt, GoesOn};
-ghost use Rattle.tree_search.specs.Working.{ClosesWith, HasNoFreeSite, IsPressed, IsVerdict, IsWorked};
+ghost use Rattle.tree_search.specs.Working.{ClosesWith, IsOpenSplit, IsPressed, IsSettled, IsVerdict, IsWorked};
 
-use crate::leaf_maker::{first_unserved, unserved_ray};
+use crate::rays::ray;
 use crate::search::Search;
-use crate::splitting::split_place;
+use crate::splitting::{split_lane, split_place};
 use crate::strengthen::strengthen;
+use branch_tree::Split;
 use dual_value::{Duals, Path, PreparedBox};
-use instance_store::{NoMemory, SiteId};
+use instance_store::NoMemory;
 use plan_search::packed_in;
-use std::alloc::Global;
 
 /// What the work on a box comes to.
 #[derive(Drop)]
 pub(crate) struct Worked {
     /// The duals of the leaf.
     pub(crate) duals: Duals,
-    /// The site on which the box is to be split, and none where it closes or may not be split.
-    pub(crate) split: Option<SiteId>,
+    /// How the box is to be split, and none where it closes or may not be split.
+    pub(crate) split: Option<Split>,
 }
 
 /// Works the box of the path, where the leaf with the duals `replaced` is replaced and those of a box
@@ -47,24 +44,15 @@ pub(crate) fn work(
     ensures worked { IfOk result (λ w. IsWorked search.old.best.instance search.new.best.plan may_split replaced.now path.now w.duals w.split) }
 {
     let boxed = PreparedBox::of(search.alloc, search.instance(), path)?;
-    match first_unserved(&boxed, search.order) {
-        Some(cust) => empty(search.alloc, &boxed, cust),
-        None => served(search, &boxed, replaced, near, may_split),
+    let found = ray(search.alloc, &boxed, search.order)?;
+    match found {
+        Some(duals) => Ok(Worked { duals, split: None }),
+        None => rayless(search, &boxed, replaced, near, may_split),
     }
 }
 
-// In a box in which the customer at place `cust` has no allowed lane.
-fn empty(alloc: Global, boxed: &PreparedBox<'_>, cust: usize) -> Result<Worked, NoMemory>
-    requires customer { cust < length boxed.now.instance.customers }
-    requires unserved { length (servers boxed.now.instance boxed.now.path cust) ≡ 0 }
-    ensures { IfOk result (λ w. (plan : Option Meaning) (may_split : Bool) (old : Prices) → IsWorked boxed.now.instance plan may_split old boxed.now.path w.duals w.split) }
-{
-    let duals = unserved_ray(alloc, boxed, cust)?;
-    Ok(Worked { duals, split: None })
-}
-
-// In a box in which each customer has an allowed lane.
-fn served(
+// In a box that no simple ray closes.
+fn rayless(
     search: &mut Search<'_>,
     boxed: &PreparedBox<'_>,
     replaced: &Duals,
@@ -75,7 +63,7 @@ fn served(
     requires path { IsPathOf boxed.now.instance boxed.now.path }
     requires replaced { DualsFit boxed.now.instance replaced.now }
     requires near { DualsFit boxed.now.instance near.now }
-    requires served { AreServed boxed.now.instance boxed.now.path }
+    requires rayless { IsRayless boxed.now.instance boxed.now.path }
     ensures plan { OnOk result (Improves search.old.best search.new.best) }
     ensures worked { IfOk result (λ w. IsWorked boxed.now.instance search.new.best.plan may_split replaced.now boxed.now.path w.duals w.split) }
 {
@@ -93,7 +81,7 @@ fn made(
     may_split: bool,
 ) -> Result<Worked, NoMemory>
     requires at { IsAt boxed.now search.old }
-    requires served { AreServed boxed.now.instance boxed.now.path }
+    requires rayless { IsRayless boxed.now.instance boxed.now.path }
     ensures plan { OnOk result (Improves search.old.best search.new.best) }
     ensures worked { IfOk result (λ w. (old : Prices) →
         ((old_path : Decisions) → LowersNone boxed.now.instance old_path boxed.now.path → IsMaking boxed.now.instance old_path old boxed.now.path search.old.leaf) →
@@ -131,13 +119,13 @@ fn press(search: &mut Search<'_>, boxed: &PreparedBox<'_>) -> Result<(), NoMemor
     Ok(())
 }
 
-// Where the leaf is open: packs a plan at the tight sites of the best duals, and names the site on which
-// the box is split, if it still is open and may be.
+// Where the leaf is open: packs a plan at the tight sites of the best duals, and says how the box is split,
+// if it still is open and may be.
 fn verdict(
     search: &mut Search<'_>,
     boxed: &PreparedBox<'_>,
     may_split: bool,
-) -> Result<Option<SiteId>, NoMemory>
+) -> Result<Option<Split>, NoMemory>
     requires { IsAt boxed.now search.old }
     ensures plan { OnOk result (Improves search.old.best search.new.best) }
     ensures leaf { OnOk result (search.new.leaf ≡ search.old.leaf) }
@@ -157,7 +145,27 @@ fn verdict(
     if is_closed(search, boxed) {
         return Ok(None);
     }
-    Ok(split_site(boxed, search.leaf.slacks(), search.helpers.steps.shares()))
+    Ok(split_of(search, boxed))
+}
+
+// How the box is split: on a free site, where one is left, and else, where some site has a capacity, on a
+// lane. None where nothing is left to decide.
+fn split_of(search: &mut Search<'_>, boxed: &PreparedBox<'_>) -> Option<Split>
+    requires { IsAt boxed.now search.old }
+    ensures some { IfSome result (IsOpenSplit boxed.now.instance boxed.now.path) }
+    ensures none { IfNone result (IsSettled boxed.now.instance boxed.now.path) }
+    ensures same { search.new ≡ search.old }
+{
+    let missing = search.missing();
+    let slacks = search.leaf.slacks();
+    match split_place(boxed, slacks, missing, search.helpers.shares()) {
+        Some(place) => Some(Split::Site(boxed.instance().site_id(place))),
+        None => {
+            let obstacle = search.obstacle();
+            search.weigh_lanes();
+            split_lane(boxed, search.order, obstacle, search.helpers.lane_shares())
+        }
+    }
 }
 
 // Whether the best duals close the box against what the best plan costs.
@@ -166,16 +174,4 @@ fn is_closed(search: &Search<'_>, boxed: &PreparedBox<'_>) -> bool
     ensures { IsTrue result ↔ ClosesWith boxed.now.instance search.now.best.plan boxed.now.path search.now.leaf.best.duals }
 {
     search.closes()
-}
-
-// The site on which an open box is split, and none where no site is free.
-fn split_site(boxed: &PreparedBox<'_>, slacks: &[i128], shares: &[f64]) -> Option<SiteId>
-    requires { length slacks.now ≡ length boxed.now.instance.sites }
-    ensures some { IfSome result (IsFreeSite boxed.now.instance boxed.now.path) }
-    ensures none { IfNone result (HasNoFreeSite boxed.now.instance boxed.now.path) }
-{
-    match split_place(boxed, slacks, shares) {
-        None => None,
-        Some(place) => Some(boxed.instance().site_id(place)),
-    }
 }

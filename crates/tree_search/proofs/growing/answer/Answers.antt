@@ -14,7 +14,7 @@ returns-then-not-branch c = λ budget ended.
     let I = c.args.search.best.instance in
     let t = c.args.tree in
     let plan = c.args.search.best.plan in
-    let same : c.instance-inst.result.now ≡ I = c.instance-inst.ensures.same in
+    let same : c.instance-inst.result.now ≡ I = c.instance-inst.ensures in
     subst (λ p. Answers I t plan c.args.made budget (Bracket c.in_ok-low.low p t c.args.made)) (sym c.into_plan-plan.ensures.exact)
     (bracket_answers I plan budget c.args.made t c.nodes-nodes.ensures.tree c.requires.stands ended c.in_ok-low.low (c.in_ok-low.ensures.exact ∙ ap (λ (J : Instance). low_of J t) same)
     (subst (λ p. IfSome p (IsFeasible I)) c.into_plan-plan.ensures.exact c.into_plan-plan.ensures.feasible)

@@ -1,12 +1,15 @@
-use Rattle.std.proofs.Common.{sym, subst}
+use Rattle.std.proofs.Common.{sym, subst, ◌∙◌}
 use Rattle.std.specs.Prelude.{IfSome}
 use Rattle.location_terms.specs.Instance.{Instance}
 use Rattle.location_terms.specs.Plan.{IsFeasible}
-use Rattle.tree_search.proofs.Going.{order_in, instance_in, goes_with_plan}
+use Rattle.tree_search.proofs.Going.{order_in, helpers_in, instance_in, goes_with_plan}
 use Rattle.tree_search.proofs.proposing.seek.Goals as goal
 
 pub plan_of_flags-requires-clause-order : goal.plan_of_flags-requires-clause-order
 plan_of_flags-requires-clause-order c = order_in c.args.boxed.now.instance c.args.search.now c.requires.instance c.search.inside.order.now c.search.inside.incumbent c.search.inside.leaf c.search.inside.helpers c.search.invariant c.search.view_is
+
+pub plan_of_flags-requires-clause-instance : goal.plan_of_flags-requires-clause-instance
+plan_of_flags-requires-clause-instance c = c.flag.ensures ∙ helpers_in c.args.boxed.now.instance c.args.search.now c.requires.instance c.search.inside.order.now c.search.inside.incumbent c.search.inside.leaf c.search.inside.helpers c.search.invariant c.search.view_is
 
 pub offer-requires : goal.offer-requires
 offer-requires c = subst (λ (J : Instance). IfSome c.in_ok-plan.plan (IsFeasible J)) (sym (instance_in c.args.boxed.now.instance c.args.search.now c.requires.instance c.search.inside.order.now c.search.inside.incumbent c.search.inside.leaf c.search.inside.helpers c.search.invariant c.search.view_is)) c.in_ok-plan.ensures.feasible

@@ -5,7 +5,7 @@ use Rattle.plan_search.specs.InBox.{IsNoWorse}
 use Rattle.tree_search.specs.Working.{IsVerdict, IsWorked}
 use Rattle.tree_search.specs.Best.{Best, Improves}
 use Rattle.tree_search.specs.Making.{Making, IsMaking, StaysMaking}
-use Rattle.tree_search.specs.Searching.{Searching, IsWorkable}
+use Rattle.tree_search.specs.Searching.{Searching}
 use Rattle.tree_search.proofs.Offered.{improved_in, improves_again}
 use Rattle.tree_search.proofs.Going.{order_in, makes_in, goes_with}
 use Rattle.tree_search.proofs.Verdicts.{worked_from}
@@ -36,17 +36,16 @@ returns-clause-worked c = λ old under.
     let settled = c.settle.new.self in
     let after = c.verdict.new.search in
     let on = c.in_ok-press.ensures.on in
-    let valid : IsValid I = subst IsValid (c.instance.ensures.same ∙ at.instance) c.sites-sites.ensures.valid in
-    let workable : IsWorkable I = subst IsWorkable at.instance c.instance.ensures.workable in
+    let valid : IsValid I = subst IsValid (c.instance.ensures ∙ at.instance) c.sites-sites.ensures.valid in
     let leaf : c.search.inside.leaf ≡ pressed.leaf = ap (λ (s : Searching). s.leaf) c.search.view_is in
     let incumbent : c.search.inside.incumbent ≡ pressed.best = ap (λ (s : Searching). s.best) c.search.view_is in
     let second : StaysMaking I path pressed.leaf settled = subst (λ (m : Making). StaysMaking I path m settled) leaf c.settle.ensures.stays in
     let later : IsNoWorse I after.best.plan pressed.best.plan = improved_in I pressed.best after.best on.at.instance (subst (λ (x : Best). Improves x after.best) incumbent c.in_ok-split.ensures.plan) in
     let verdict : IsVerdict I after.best.plan c.args.may_split path settled.best.duals c.in_ok-split.split = subst (λ (m : Making). IsVerdict I after.best.plan c.args.may_split path m.best.duals c.in_ok-split.split) c.in_ok-split.ensures.leaf c.in_ok-split.ensures.verdict in
     let worked =
-    worked_from I path valid workable.no_caps workable.free_count at.path c.requires.served
+    worked_from I path valid at.path c.requires.rayless
     c.args.search.now.leaf pressed.leaf settled making.0 making.1 making.2 on.leaf second
     pressed.best.plan after.best.plan later c.in_ok-press.ensures.pressed c.args.may_split c.in_ok-split.split old verdict
-    (λ old_path lowers. c.settle.ensures.made old_path old c.requires.served (subst (λ (m : Making). IsMaking I old_path old path m) (sym leaf) (on.leaf.making old_path old (under old_path lowers)))) in
+    (λ old_path lowers. c.settle.ensures.made old_path old c.requires.rayless.served (subst (λ (m : Making). IsMaking I old_path old path m) (sym leaf) (on.leaf.making old_path old (under old_path lowers)))) in
     let duals : c.in_ok-duals.duals ≡ settled.best.duals = c.in_ok-duals.ensures ∙ c.duals.ensures ∙ ap (λ (s : Searching). s.leaf.best.duals) c.search-2.view_is ∙ ap (λ (m : Making). m.best.duals) c.in_ok-split.ensures.leaf in
     subst (λ (d : Duals). IsWorked I after.best.plan c.args.may_split old path d c.in_ok-split.split) (sym duals) worked

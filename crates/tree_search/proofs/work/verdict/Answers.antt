@@ -6,6 +6,7 @@ use Rattle.plan_search.specs.InBox.{IsNoWorse}
 use Rattle.plan_search.specs.Packed.{packed}
 use Rattle.tree_search.specs.Making.{Making}
 use Rattle.tree_search.specs.Searching.{Searching}
+use Rattle.tree_search.specs.Working.{IsVerdict}
 use Rattle.tree_search.proofs.Offered.{offered_sought, closed_sought}
 use Rattle.tree_search.proofs.Verdicts.{verdict_on}
 use Rattle.tree_search.proofs.Going.{improves_same, goes_on_plan}
@@ -18,7 +19,7 @@ pub returns-then-is_closed-clause-verdict : goal.returns-then-is_closed-clause-v
 returns-then-is_closed-clause-verdict c =
     let I = c.args.boxed.now.instance in
     let closed = c.is_closed.ensures.0 c.if-is_closed.true in
-    let valid : IsValid I = subst IsValid (c.instance.ensures.same ∙ c.requires.instance) c.sites-sites.ensures.valid in
+    let valid : IsValid I = subst IsValid (c.instance.ensures ∙ c.requires.instance) c.sites-sites.ensures.valid in
     record {
       sought = closed_sought I c.args.boxed.now.path c.args.search.now.leaf.best.duals c.args.search.now.best.plan valid c.requires.path c.requires.making.2.best_risen.tame.fit.of_instance closed;
       whole = λ none. inl closed;
@@ -64,8 +65,10 @@ returns-clause-verdict c =
     let same : c.search.inside.leaf ≡ t.leaf = ap (λ (s : Searching). s.leaf) c.search.view_is ∙ sym c.offer.ensures.leaf in
     let is = c.deref.ensures.value ∙ c.in_ok-hint.ensures ∙ ap (λ (m : Making). tight_sites I path m.best.duals) same in
     let offered : IsNoWorse I t.best.plan (packed I path c.deref.result.now) = subst (IsNoWorse I t.best.plan) c.in_ok-plan.ensures.exact (subst (λ (J : Instance). IsNoWorse J t.best.plan c.in_ok-plan.plan) c.requires.instance c.offer.ensures.offered) in
-    verdict_on I path t.leaf.best.duals t.best.plan c.args.may_split c.split_site.result
+    let verdict : IsVerdict I t.best.plan c.args.may_split path t.leaf.best.duals c.split_of.result =
+    verdict_on I path t.leaf.best.duals t.best.plan c.args.may_split c.split_of.result
     (λ scaled. offered_sought I path t.leaf.best.duals t.best.plan c.deref.result.now is offered)
     c.if-not-may_split.false
     (λ closed. both_ways _ c.if-is_closed-2.false (c.is_closed-2.ensures.1 closed))
-    c.split_site.ensures.some c.split_site.ensures.none
+    c.split_of.ensures.some c.split_of.ensures.none in
+    subst (λ (x : Searching). IsVerdict I x.best.plan c.args.may_split path x.leaf.best.duals c.split_of.result) (sym c.split_of.ensures.same) verdict

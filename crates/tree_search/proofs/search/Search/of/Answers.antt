@@ -1,7 +1,8 @@
 use Rattle.std.proofs.Common.{◌∙◌, sym, ap, subst}
+use Rattle.location_terms.specs.Instance.{Instance}
 use Rattle.lane_order.specs.Order.{IsOrderOf}
 use Rattle.dual_steps.specs.Sizes.{sizes_of}
-use Rattle.tree_search.specs.Searching.{IsWorkable}
+use Rattle.tree_search.specs.Making.{IsMakerFor}
 use Rattle.tree_search.proofs.search.Search.of.Goals as goal
 
 pub invariant_of-result : goal.invariant_of-result
@@ -9,7 +10,6 @@ invariant_of-result c =
     let same = c.of-incumbent.ensures.instance in
     record {
       order = subst (IsOrderOf c.args.order.now) (sym same) c.requires.order;
-      workable = subst IsWorkable (sym same) c.requires.workable;
-      leaf_sizes = c.in_ok-leaf.ensures ∙ ap sizes_of (sym same);
+      maker = subst (λ (J : Instance). IsMakerFor J c.in_ok-leaf.leaf) (sym same) c.in_ok-leaf.ensures;
       sizes = c.in_ok-helpers.ensures ∙ ap sizes_of (sym same);
     }

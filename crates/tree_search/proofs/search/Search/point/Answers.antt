@@ -1,14 +1,16 @@
-use Rattle.tree_search.proofs.Going.{order_in, no_caps_in, makes_in, goes_with}
+use Rattle.std.proofs.Common.{ap, length, ◌∙◌}
+use Rattle.location_terms.specs.Instance.{Instance}
+use Rattle.tree_search.proofs.Going.{at_same, goes_same, goes_again}
 use Rattle.tree_search.proofs.search.Search.point.Goals as goal
 
-pub point-requires-clause-order : goal.point-requires-clause-order
-point-requires-clause-order c = order_in c.args.boxed.now.instance c.args.self.now c.requires.instance c.self.inside.order.now c.self.inside.incumbent c.self.inside.leaf c.self.inside.helpers c.self.invariant c.self.view_is
+pub propose-requires-clause-at : goal.propose-requires-clause-at
+propose-requires-clause-at c = at_same c.args.boxed.now c.args.self.now _ c.requires c.rounded.ensures.same
 
-pub point-requires-clause-no_caps : goal.point-requires-clause-no_caps
-point-requires-clause-no_caps c = no_caps_in c.args.boxed.now.instance c.args.self.now c.requires.instance c.self.inside.order.now c.self.inside.incumbent c.self.inside.leaf c.self.inside.helpers c.self.invariant c.self.view_is
+pub propose-requires-clause-customers : goal.propose-requires-clause-customers
+propose-requires-clause-customers c = c.in_ok-duals.ensures.customers ∙ ap (λ (J : Instance). length J.customers) c.requires.instance
 
-pub point-requires-clause-making : goal.point-requires-clause-making
-point-requires-clause-making c = makes_in c.args.boxed.now c.args.self.now c.requires c.self.inside.incumbent c.self.inside.leaf c.self.view_is
+pub propose-requires-clause-sites : goal.propose-requires-clause-sites
+propose-requires-clause-sites c = c.in_ok-duals.ensures.sites ∙ ap (λ (J : Instance). length J.sites) c.requires.instance
 
 pub returns : goal.returns
-returns c = goes_with c.args.boxed.now c.args.self.now c.requires c.self.inside.incumbent c.self.inside.leaf c.self.view_is c.point.new.self c.point.ensures.stays
+returns c = goes_again c.args.boxed.now c.args.self.now _ _ (goes_same c.args.boxed.now c.args.self.now _ c.requires c.rounded.ensures.same) c.propose.ensures

@@ -1,0 +1,172 @@
+//! Steps with prices of capacities, in boxes with free sites and in those without.
+ghost use Rattle.std.specs.Prelude.{◌≡◌, IfOk, length};
+ghost use Rattle.lane_order.specs.Order.{IsOrderOf};
+ghost use Rattle.dual_steps.specs.Sizes.{sizes_of};
+
+use dual_value::{Duals, PreparedBox, SiteState};
+use instance_store::{Instance, NoMemory};
+use lane_order::LaneOrder;
+use side_multipliers::{AT_ROOT, CapSteps, IN_NODE, IN_ROOMS, LanePlace, LaneShare, RoomSteps};
+use std::alloc::Global;
+use std::marker::Model;
+
+/// The steps of an instance some site of which has a capacity. Those of boxes without free sites know
+/// better prices there.
+#[derive(Drop)]
+pub(crate) struct Prices {
+    caps: CapSteps,
+    rooms: RoomSteps,
+    // Whether the box at work has no free site.
+    is_settled: bool,
+}
+
+impl Model for Prices {
+    ghost use Rattle.dual_steps.specs.Sizes.{Sizes};
+
+    ghost Value = { Sizes };
+
+    ghost use Rattle.std.specs.Prelude.{◌≡◌};
+
+    ghost view = { λ a. a.caps };
+
+    ghost invariant = { λ a. a.rooms ≡ a.caps };
+}
+
+impl Prices {
+    /// Steps for boxes of the instance. It fails only where memory runs out.
+    pub(crate) fn of(alloc: Global, inst: &Instance, order: &LaneOrder) -> Result<Prices, NoMemory>
+        ensures { IfOk result (λ prices. prices ≡ sizes_of inst.now) }
+    {
+        let caps = CapSteps::of(alloc, inst, order)?;
+        let rooms = RoomSteps::of(alloc, inst, order)?;
+        Ok(Prices {
+            caps,
+            rooms,
+            is_settled: false,
+        })
+    }
+
+    /// Goes into a box of the instance, and begins anew from these duals.
+    pub(crate) fn enter(&mut self, boxed: &PreparedBox<'_>, order: &LaneOrder, duals: &Duals)
+        requires order { IsOrderOf order.now boxed.now.instance }
+        requires sizes { self.old ≡ sizes_of boxed.now.instance }
+        ensures { self.new ≡ self.old }
+    {
+        self.is_settled = !has_free_site(boxed);
+        if self.is_settled {
+            self.rooms.enter(boxed, order);
+            self.rooms.restart(IN_ROOMS);
+            self.rooms.start_from(duals.prices(), duals.q());
+            return;
+        }
+        self.caps.enter(boxed, order);
+        let is_root = boxed.path().steps() == 0;
+        self.caps.restart(if is_root { AT_ROOT } else { IN_NODE });
+        self.caps.start_from(duals.values(), duals.q());
+    }
+
+    /// Whether the box at work has no free site.
+    pub(crate) fn is_settled(&self) -> bool {
+        self.is_settled
+    }
+
+    /// The bound that the steps in the box at work have come to, in millionths.
+    pub(crate) fn bound(&self) -> f64 {
+        if self.is_settled {
+            self.rooms.bound()
+        } else {
+            self.caps.bound()
+        }
+    }
+
+    /// Takes smoothed steps towards a bound of `target` millionths, up to so many.
+    pub(crate) fn step(&mut self, target: f64, steps: u32)
+        ensures { self.new ≡ self.old }
+    {
+        if self.is_settled {
+            self.rooms.volume(target, steps);
+        } else {
+            self.caps.volume(target, steps);
+        }
+    }
+
+    /// A lane of a box without free sites that stands in the way of duals that show what steps do: that no
+    /// plan is left there that costs less than `target` millionths.
+    pub(crate) fn obstacle(&mut self, target: f64) -> Option<LanePlace>
+        ensures { self.new ≡ self.old }
+    {
+        if !self.is_settled || !self.rooms.shows(target) {
+            return None;
+        }
+        self.rooms.obstacle()
+    }
+
+    /// The best duals of the steps, rounded to parts of a millionth, `scale` of them. In boxes without free
+    /// sites they are prices alone, from which an ascent finds the duals. It fails only where memory runs
+    /// out.
+    pub(crate) fn rounded(&mut self, alloc: Global, scale: u32) -> Result<Duals, NoMemory>
+        ensures customers { IfOk result (λ d. length d.v ≡ self.old.customers) }
+        ensures sites { IfOk result (λ d. length d.u ≡ self.old.sites) }
+        ensures same { self.new ≡ self.old }
+    {
+        let mut values = vec![in alloc; 0; self.caps.values().len()]?;
+        if self.is_settled {
+            self.rooms.round(scale);
+            let prices = Vec::from_slice(alloc, self.rooms.prices())?;
+            return Ok(Duals::from_lists(scale, 0, values, prices));
+        }
+        self.caps.round(scale);
+        widen(self.caps.values(), &mut values);
+        let prices = Vec::from_slice(alloc, self.caps.prices())?;
+        let extra = i128::from(self.caps.count_price());
+        Ok(Duals::from_lists(scale, extra, values, prices))
+    }
+
+    /// The sites that are taken at the best duals, by place.
+    pub(crate) fn open(&self) -> &[bool]
+        ensures { length result.now ≡ self.now.sites }
+    {
+        self.caps.open()
+    }
+
+    /// How often each site is taken by smoothed steps, between 0 and 1, by place.
+    pub(crate) fn shares(&self) -> &[f64]
+        ensures { length result.now ≡ self.now.sites }
+    {
+        self.caps.shares()
+    }
+
+    /// Finds out which site steps in a box without free sites take most often for each customer.
+    pub(crate) fn weigh_lanes(&mut self)
+        ensures { self.new ≡ self.old }
+    {
+        self.rooms.weigh_lanes();
+    }
+
+    /// For each customer the site that steps take most often for it, as the lanes were weighed last, by place.
+    pub(crate) fn lane_shares(&self) -> &[LaneShare]
+        ensures { length result.now ≡ self.now.customers }
+    {
+        self.rooms.lane_shares()
+    }
+}
+
+fn has_free_site(boxed: &PreparedBox<'_>) -> bool {
+    for site in 0..boxed.instance().sites() {
+        match boxed.state(site) {
+            SiteState::Free => return true,
+            SiteState::Opened | SiteState::Closed => {}
+        }
+    }
+    false
+}
+
+/// The values as wider numbers.
+pub(crate) fn widen(values: &[i64], wide: &mut [i128])
+    requires { length wide.old ≡ length values.now }
+    ensures { length wide.new ≡ length wide.old }
+{
+    for j in 0..values.len() {
+        wide[j] = i128::from(values[j]);
+    }
+}
