@@ -2,10 +2,10 @@
 use Rattle.std.proofs.Common.{◌≡◌, ℕ, ◌==◌, Bool, true, false, List, [], ◌∷◌, length, Option, None, Some, refl, ap, subst}
 use Rattle.std.specs.Prelude.{◌&&◌, ◌||◌, not, bytes_eq, if◌then◌else◌}
 use Rattle.std.specs.List.{list_any}
-use Rattle.std.specs.Option.{option_map, option_and_then}
-use Rattle.dualoc_cli.specs.declared.words.FileForm.{FileForm}
-use Rattle.dualoc_cli.specs.declared.words.FileForm.TheVariants.{Cap, Ufl}
-use Rattle.dualoc_cli.specs.Command.{Command, OnFile, InstanceFile, ResultFiles, into_files, Job, SolveShort, SolveLong, ShowDuals, Check, are_names, plain_command, form_of, searched_form, budget_of, capacity_of, search_of, solve_of, duals_of, check_of, command_of}
+use Rattle.std.specs.Option.{is_none, option_map, option_and_then}
+use Rattle.dualoc_cli.specs.declared.options.Options.{Options}
+use Rattle.dualoc_cli.specs.declared.words.FileForm.TheVariants.{Ufl}
+use Rattle.dualoc_cli.specs.Command.{Command, OnFile, InstanceFile, instance_file, ResultFiles, into_files, Job, SolveShort, SolveLong, ShowDuals, Check, are_names, options_of, file_of, job_on, unbudgeted, long_of, solve_of, duals_of, check_of, command_of}
 
 -- the first of some names isn't among the others, which are names too
 first_name : (x y z : Bool) → (not x && not y && z) ≡ true → (y ≡ false) × (z ≡ true)
@@ -32,63 +32,65 @@ module _ (file : InstanceFile) (into : ResultFiles) (given : Option ℕ) where
       let apart = first_name (length into.plan == 0) (list_any (bytes_eq into.plan) (into.certificate ∷ [])) (are_names (into.certificate ∷ [])) behind.1 in
       only_first (bytes_eq into.plan into.certificate) apart.0
 
-  search_by : (named : Bool) (form : Option FileForm) (name : List ℕ) (to : ResultFiles) (budget : Option ℕ)
-      → Asks (if named then option_map (plain_command (SolveLong to budget) name) form else None) → (named ≡ true) × (to ≡ into)
-  search_by false form name to budget e = absurd cc
-  search_by true None name to budget e = absurd cc
-  search_by true (Some form) name to budget e = (refl, cc)
+  on_by : (named : Option InstanceFile) (job : Job) → Asks (option_map (λ f. OnFile f job) named) → job ≡ SolveLong into given
+  on_by None job e = absurd cc
+  on_by (Some f) job e = cc
 
-  search_apart : (form name plan certificate : List ℕ) (budget : Option ℕ) → Asks (search_of form name (into_files plan certificate) budget) → IsApart
-  search_apart form name plan certificate budget e =
-      let by = search_by (are_names (name ∷ plan ∷ certificate ∷ [])) (searched_form form) name (into_files plan certificate) budget e in
+  job_by : (form name : List ℕ) (job : Job) (capacity : Option ℕ) → Asks (job_on form name job capacity) → job ≡ SolveLong into given
+  job_by form name job capacity e = on_by (file_of form name capacity) job e
+
+  long_by : (named : Bool) (form name : List ℕ) (to : ResultFiles) (options : Option Options)
+      → Asks (if named then option_and_then (λ o. job_on form name (SolveLong to o.budget) o.capacity) options else None) → (named ≡ true) × (to ≡ into)
+  long_by false form name to options e = absurd cc
+  long_by true form name to None e = absurd cc
+  long_by true form name to (Some o) e =
+      let same : SolveLong to o.budget ≡ SolveLong into given = job_by form name (SolveLong to o.budget) o.capacity e in
+      (refl, cc)
+
+  long_apart : (form name plan certificate : List ℕ) (options : Option Options) → Asks (long_of form name (into_files plan certificate) options) → IsApart
+  unfolding long_of
+  long_apart form name plan certificate options e =
+      let by = long_by (are_names (name ∷ plan ∷ certificate ∷ [])) form name (into_files plan certificate) options e in
       let plan_is : plan ≡ into.plan = ap (λ i. i.plan) by.1 in
       let certificate_is : certificate ≡ into.certificate = ap (λ i. i.certificate) by.1 in
       apart_names name (subst (λ c. are_names (name ∷ into.plan ∷ c ∷ []) ≡ true) certificate_is (subst (λ p. are_names (name ∷ p ∷ certificate ∷ []) ≡ true) plan_is by.0))
 
-  budget_apart : (budget : Option ℕ) (form name plan certificate : List ℕ) → Asks (option_and_then (λ n. search_of form name (into_files plan certificate) (Some n)) budget) → IsApart
-  budget_apart None form name plan certificate e = absurd cc
-  budget_apart (Some n) form name plan certificate e = search_apart form name plan certificate (Some n) e
-
-  short_apart : (named : Bool) (name : List ℕ) → Asks (if named then Some (plain_command SolveShort name Ufl) else None) → IsApart
+  short_apart : (named : Bool) (name : List ℕ) → Asks (if named then Some (OnFile (instance_file Ufl name None) SolveShort) else None) → IsApart
   short_apart false name e = absurd cc
   short_apart true name e = absurd cc
 
   solve_apart : (words : List (List ℕ)) → Asks (solve_of words) → IsApart
+  unfolding solve_of
   solve_apart [] e = absurd cc
   solve_apart (a ∷ []) e = absurd cc
   solve_apart (form ∷ name ∷ []) e = short_apart _ name e
   solve_apart (a ∷ b ∷ c ∷ []) e = absurd cc
-  solve_apart (form ∷ name ∷ plan ∷ certificate ∷ []) e = search_apart form name plan certificate None e
-  solve_apart (form ∷ name ∷ plan ∷ certificate ∷ option ∷ []) e = budget_apart (budget_of option) form name plan certificate e
-  solve_apart (a ∷ b ∷ c ∷ d ∷ f ∷ g ∷ rest) e = absurd cc
+  solve_apart (form ∷ name ∷ plan ∷ certificate ∷ options) e = long_apart form name plan certificate (options_of options) e
 
-  other_by : (named : Bool) (job : Job) (form : Option FileForm) (name : List ℕ) → (job ≡ SolveLong into given → ⊥)
-      → Asks (if named then option_map (plain_command job name) form else None) → IsApart
-  other_by false job form name other e = absurd cc
-  other_by true job None name other e = absurd cc
-  other_by true job (Some form) name other e = absurd (other cc)
+  tested_by : (unspent : Bool) (form name : List ℕ) (job : Job) (capacity : Option ℕ) → (job ≡ SolveLong into given → ⊥)
+      → Asks (if unspent then job_on form name job capacity else None) → IsApart
+  tested_by true form name job capacity other e = absurd (other (job_by form name job capacity e))
+  tested_by false form name job capacity other e = absurd cc
 
-  with_by : (named is_cap : Bool) (capacity : Option ℕ) (job : Job) (name : List ℕ) → (job ≡ SolveLong into given → ⊥)
-      → Asks (if named then (if is_cap then option_map (λ amount. OnFile (record { form = Cap; name = name; given = Some amount }) job) capacity else None) else None) → IsApart
-  with_by false is_cap capacity job name other e = absurd cc
-  with_by true false capacity job name other e = absurd cc
-  with_by true true None job name other e = absurd cc
-  with_by true true (Some amount) job name other e = absurd (other cc)
+  other_by : (named : Bool) (form name : List ℕ) (job : Job) (options : Option Options) → (job ≡ SolveLong into given → ⊥)
+      → Asks (if named then option_and_then (unbudgeted form name job) options else None) → IsApart
+  unfolding unbudgeted
+  other_by false form name job options other e = absurd cc
+  other_by true form name job None other e = absurd cc
+  other_by true form name job (Some o) other e = tested_by (is_none o.budget) form name job o.capacity other e
 
   duals_apart : (words : List (List ℕ)) → Asks (duals_of words) → IsApart
+  unfolding duals_of
   duals_apart [] e = absurd cc
   duals_apart (a ∷ []) e = absurd cc
-  duals_apart (form ∷ name ∷ []) e = other_by _ ShowDuals (form_of form) name (λ same. cc) e
-  duals_apart (form ∷ name ∷ option ∷ []) e = with_by _ _ (capacity_of option) ShowDuals name (λ same. cc) e
-  duals_apart (a ∷ b ∷ c ∷ d ∷ rest) e = absurd cc
+  duals_apart (form ∷ name ∷ options) e = other_by _ form name ShowDuals (options_of options) (λ same. cc) e
 
   check_apart : (words : List (List ℕ)) → Asks (check_of words) → IsApart
+  unfolding check_of
   check_apart [] e = absurd cc
   check_apart (a ∷ []) e = absurd cc
   check_apart (a ∷ b ∷ []) e = absurd cc
-  check_apart (form ∷ name ∷ certificate ∷ []) e = other_by _ (Check certificate) (form_of form) name (λ same. cc) e
-  check_apart (form ∷ name ∷ certificate ∷ option ∷ []) e = with_by _ _ (capacity_of option) (Check certificate) name (λ same. cc) e
-  check_apart (a ∷ b ∷ c ∷ d ∷ f ∷ rest) e = absurd cc
+  check_apart (form ∷ name ∷ certificate ∷ options) e = other_by _ form name (Check certificate) (options_of options) (λ same. cc) e
 
   by_verb : (is_solve is_duals is_check : Bool) (words : List (List ℕ))
       → Asks (if is_solve then solve_of words else (if is_duals then duals_of words else (if is_check then check_of words else None))) → IsApart

@@ -23,8 +23,6 @@ use Rattle.dual_ascent.specs.Kept.{Keeps}
 use Rattle.dual_ascent.proofs.Plain.{plain_keeps, plain_values, plain_slacks, plain_bound}
 use Rattle.dual_ascent.proofs.Small.{value_small, slack_small, bound_small}
 use Rattle.report.specs.DualsText.{ArePrintable}
-use Rattle.location_terms.specs.Plain.{IsPlain}
-use Rattle.plan_search.specs.InBox.{HasNoCaps}
 use Rattle.instance_store.specs.Small.{IsSmall}
 use Rattle.ufllib_read.proofs.Meant as ufl
 use Rattle.orlib_read.specs.declared.capacities.Capacities.TheVariants.{Kept, Ignored}
@@ -137,10 +135,6 @@ valid_in Pmed given bytes I small means = networks.valid-meant bytes I means
 
 pub task_valid : (r : Run) (job : Job) (I : Instance) → HasTask r job I → IsValid I
 task_valid r job I task = valid_in task.file.form task.file.given task.bytes I (suited r.words task.file job task.asked.words_are).small task.means
-
--- a plain instance has no capacities
-pub plain_caps : (I : Instance) → IsPlain I → HasNoCaps I
-plain_caps I plain = λ i d below. let site = plain.sites i d below in site.no_cap
 
 -- the duals of an ascent from zeros can be printed
 ascent_printable : (I : Instance) (d : Duals) → IsValid I → IsAscended I [] (zeros I 1) d → ArePrintable I d

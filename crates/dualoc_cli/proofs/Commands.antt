@@ -1,19 +1,21 @@
 -- What is so of every command.
 use Rattle.std.proofs.Common.{◌≡◌, ℕ, ◌≤◌, Bool, true, false, List, [], ◌∷◌, Option, None, Some, Result, Ok, Err, refl, subst}
 use Rattle.std.specs.Prelude.{IfSome, drop, codes, bytes_eq, if◌then◌else◌}
-use Rattle.std.specs.Option.{option_map, option_and_then}
+use Rattle.std.specs.Option.{is_none, option_map, option_and_then, option_or}
 use Rattle.std.specs.Result.{result_ok}
 use Rattle.location_terms.specs.declared.limits.TheConstants.{MAX_AMOUNT}
 use Rattle.fixed_cost.specs.Amount.{amount_of}
 use Rattle.fixed_cost.specs.declared.amount.AmountFault.{AmountFault}
 use Rattle.fixed_cost.proofs.ReadFacts.{amount_of-small}
 use Rattle.instance_store.specs.Small.{IsSmall}
+use Rattle.dualoc_cli.specs.declared.options.Options.{Options}
 use Rattle.dualoc_cli.specs.declared.words.FileForm.{FileForm}
 use Rattle.dualoc_cli.specs.declared.words.FileForm.TheVariants.{Cap, Ufl}
-use Rattle.dualoc_cli.specs.Command.{Command, OnFile, InstanceFile, ResultFiles, into_files, Job, SolveShort, SolveLong, ShowDuals, Check, are_names, plain_command, form_of, is_searched, searched_form, budget_of, capacity_of, command_with, search_of, solve_of, duals_of, check_of, command_of}
-use Rattle.dualoc_cli.specs.Step.{Solves, IsSuited}
+use Rattle.dualoc_cli.specs.Command.{Command, OnFile, InstanceFile, instance_file, ResultFiles, into_files, Job, SolveShort, SolveLong, ShowDuals, Check, are_names, form_of, budget_of, capacity_of, options_with, both_options, options_of, file_of, job_on, unbudgeted, long_of, solve_of, duals_of, check_of, command_of}
+use Rattle.dualoc_cli.specs.Step.{IsSuited}
 
--- the capacity that an option gives is an amount
+-- The capacity that options give is an amount.
+
 capacity_small : (option : List ℕ) → IsSmall (capacity_of option)
 capacity_small option = by _ (amount_of (drop 9 option)) (amount_of-small (drop 9 option))
   where
@@ -21,6 +23,33 @@ capacity_small option = by _ (amount_of (drop 9 option)) (amount_of-small (drop 
     by true (Ok n) small = small n refl
     by true (Err fault) small = tt
     by false read small = tt
+
+abbrev AreSmall : Option Options → Type 0
+AreSmall options = IfSome options (λ o. IsSmall o.capacity)
+
+one_small : (budget capacity : Option ℕ) → IsSmall capacity → AreSmall (option_or (option_map (λ n. options_with (Some n) None) budget) (option_map (λ a. options_with None (Some a)) capacity))
+one_small (Some n) capacity small = tt
+one_small None (Some a) small = small
+one_small None None small = tt
+
+both_small : (budget capacity : Option ℕ) → IsSmall capacity → AreSmall (both_options budget capacity)
+both_small None capacity small = tt
+both_small (Some n) None small = tt
+both_small (Some n) (Some a) small = small
+
+either_small : (one other : Option Options) → AreSmall one → AreSmall other → AreSmall (option_or one other)
+either_small None other h k = k
+either_small (Some o) other h k = h
+
+options_small : (words : List (List ℕ)) → AreSmall (options_of words)
+unfolding options_of
+options_small [] = tt
+options_small (word ∷ []) = one_small (budget_of word) (capacity_of word) (capacity_small word)
+options_small (one ∷ other ∷ []) =
+    either_small (both_options (budget_of one) (capacity_of other)) (both_options (budget_of other) (capacity_of one)) (both_small (budget_of one) (capacity_of other) (capacity_small other)) (both_small (budget_of other) (capacity_of one) (capacity_small one))
+options_small (a ∷ b ∷ c ∷ rest) = tt
+
+-- Commands.
 
 abbrev IsSound : Command → Type 0
 IsSound (OnFile file job) = IsSuited file job
@@ -36,64 +65,66 @@ sound_if : (test : Bool) (command : Option Command) → Sound command → Sound 
 sound_if true command h = h
 sound_if false command h = tt
 
-plain_sound : (job : Job) (name : List ℕ) (form : Option FileForm) → ((f : FileForm) → form ≡ Some f → Solves job → is_searched f ≡ true) → Sound (option_map (plain_command job name) form)
-plain_sound job name None h = tt
-plain_sound job name (Some f) h = record { small = tt; searched = h f refl }
+abbrev IsSmallFile : Option InstanceFile → Type 0
+IsSmallFile file = IfSome file (λ f. IsSmall f.given)
 
-with_sound : (job : Job) (name : List ℕ) (given : Option ℕ) → (Solves job → ⊥) → IsSmall given → Sound (option_map (λ amount. OnFile (record { form = Cap; name = name; given = Some amount }) job) given)
-with_sound job name None other small = tt
-with_sound job name (Some amount) other small = record { small = small; searched = λ solves. absurd (other solves) }
+named_small : (form : Option FileForm) (name : List ℕ) → IsSmallFile (option_map (λ f. instance_file f name None) form)
+named_small None name = tt
+named_small (Some form) name = tt
 
-option_sound : (option : List ℕ) (job : Job) (name form : List ℕ) → (Solves job → ⊥) → Sound (command_with option job name form)
-option_sound option job name form other = sound_if (bytes_eq form (codes "cap")) _ (with_sound job name (capacity_of option) other (capacity_small option))
+given_small : (is_cap : Bool) (name : List ℕ) (capacity : ℕ) → IsSmall (Some capacity) → IsSmallFile (if is_cap then Some (instance_file Cap name (Some capacity)) else None)
+given_small true name capacity small = small
+given_small false name capacity small = tt
 
-is_searched_form : (form : Option FileForm) (f : FileForm) → option_and_then (λ g. if is_searched g then Some g else None) form ≡ Some f → is_searched f ≡ true
-is_searched_form None f e = absurd cc
-is_searched_form (Some g) f e = by (is_searched g) refl e
-  where
-    by : (b : Bool) → is_searched g ≡ b → (if b then Some g else None) ≡ Some f → is_searched f ≡ true
-    by true searched same = let here : g ≡ f = cc in subst (λ h. is_searched h ≡ true) here searched
-    by false searched same = absurd cc
+file_small : (form name : List ℕ) (given : Option ℕ) → IsSmall given → IsSmallFile (file_of form name given)
+file_small form name None small = named_small (form_of form) name
+file_small form name (Some capacity) small = given_small (bytes_eq form (codes "cap")) name capacity small
 
-searched : (word : List ℕ) (f : FileForm) → searched_form word ≡ Some f → is_searched f ≡ true
-unfolding searched_form
-searched word f e = is_searched_form (form_of word) f e
+on_sound : (file : Option InstanceFile) (job : Job) → (job ≡ SolveShort → ⊥) → IsSmallFile file → Sound (option_map (λ f. OnFile f job) file)
+on_sound None job other small = tt
+on_sound (Some file) job other small = record { small = small; short = λ same. absurd (other same) }
 
-search_sound : (form name : List ℕ) (into : ResultFiles) (given : Option ℕ) → Sound (search_of form name into given)
-search_sound form name into given =
-    sound_if (are_names (name ∷ into.plan ∷ into.certificate ∷ [])) _ (plain_sound (SolveLong into given) name (searched_form form) (λ f e solves. searched form f e))
+job_sound : (form name : List ℕ) (job : Job) (given : Option ℕ) → (job ≡ SolveShort → ⊥) → IsSmall given → Sound (job_on form name job given)
+job_sound form name job given other small = on_sound (file_of form name given) job other (file_small form name given small)
 
-budget_sound : (budget : Option ℕ) (form name : List ℕ) (into : ResultFiles) → Sound (option_and_then (λ n. search_of form name into (Some n)) budget)
-budget_sound None form name into = tt
-budget_sound (Some n) form name into = search_sound form name into (Some n)
+unbudgeted_sound : (form name : List ℕ) (job : Job) (options : Option Options) → (job ≡ SolveShort → ⊥) → AreSmall options → Sound (option_and_then (unbudgeted form name job) options)
+unfolding unbudgeted
+unbudgeted_sound form name job None other small = tt
+unbudgeted_sound form name job (Some o) other small = sound_if (is_none o.budget) (job_on form name job o.capacity) (job_sound form name job o.capacity other small)
 
-short_sound : (named : Bool) (name : List ℕ) → Sound (if named then Some (plain_command SolveShort name Ufl) else None)
-short_sound true name = record { small = tt; searched = λ solves. refl }
+searched_sound : (form name : List ℕ) (into : ResultFiles) (options : Option Options) → AreSmall options → Sound (option_and_then (λ o. job_on form name (SolveLong into o.budget) o.capacity) options)
+searched_sound form name into None small = tt
+searched_sound form name into (Some o) small = job_sound form name (SolveLong into o.budget) o.capacity (λ same. cc) small
+
+long_sound : (form name : List ℕ) (into : ResultFiles) (options : Option Options) → AreSmall options → Sound (long_of form name into options)
+unfolding long_of
+long_sound form name into options small = sound_if (are_names (name ∷ into.plan ∷ into.certificate ∷ [])) _ (searched_sound form name into options small)
+
+short_sound : (named : Bool) (name : List ℕ) → Sound (if named then Some (OnFile (instance_file Ufl name None) SolveShort) else None)
+short_sound true name = record { small = tt; short = λ same. refl }
 short_sound false name = tt
 
 solve_sound : (words : List (List ℕ)) → Sound (solve_of words)
+unfolding solve_of
 solve_sound [] = tt
 solve_sound (a ∷ []) = tt
 solve_sound (form ∷ name ∷ []) = short_sound _ name
 solve_sound (a ∷ b ∷ c ∷ []) = tt
-solve_sound (form ∷ name ∷ plan ∷ certificate ∷ []) = search_sound form name (into_files plan certificate) None
-solve_sound (form ∷ name ∷ plan ∷ certificate ∷ option ∷ []) = budget_sound (budget_of option) form name (into_files plan certificate)
-solve_sound (a ∷ b ∷ c ∷ d ∷ f ∷ g ∷ rest) = tt
+solve_sound (form ∷ name ∷ plan ∷ certificate ∷ options) = long_sound form name (into_files plan certificate) (options_of options) (options_small options)
 
 duals_sound : (words : List (List ℕ)) → Sound (duals_of words)
+unfolding duals_of
 duals_sound [] = tt
 duals_sound (a ∷ []) = tt
-duals_sound (form ∷ name ∷ []) = sound_if (are_names (name ∷ [])) _ (plain_sound ShowDuals name (form_of form) (λ f e solves. absurd solves))
-duals_sound (form ∷ name ∷ option ∷ []) = sound_if (are_names (name ∷ [])) _ (option_sound option ShowDuals name form (λ solves. solves))
-duals_sound (a ∷ b ∷ c ∷ d ∷ rest) = tt
+duals_sound (form ∷ name ∷ options) = sound_if (are_names (name ∷ [])) _ (unbudgeted_sound form name ShowDuals (options_of options) (λ same. cc) (options_small options))
 
 check_sound : (words : List (List ℕ)) → Sound (check_of words)
+unfolding check_of
 check_sound [] = tt
 check_sound (a ∷ []) = tt
 check_sound (a ∷ b ∷ []) = tt
-check_sound (form ∷ name ∷ certificate ∷ []) = sound_if (are_names (name ∷ certificate ∷ [])) _ (plain_sound (Check certificate) name (form_of form) (λ f e solves. absurd solves))
-check_sound (form ∷ name ∷ certificate ∷ option ∷ []) = sound_if (are_names (name ∷ certificate ∷ [])) _ (option_sound option (Check certificate) name form (λ solves. solves))
-check_sound (a ∷ b ∷ c ∷ d ∷ f ∷ rest) = tt
+check_sound (form ∷ name ∷ certificate ∷ options) =
+    sound_if (are_names (name ∷ certificate ∷ [])) _ (unbudgeted_sound form name (Check certificate) (options_of options) (λ same. cc) (options_small options))
 
 command_sound : (words : List (List ℕ)) → Sound (command_of words)
 command_sound [] = tt

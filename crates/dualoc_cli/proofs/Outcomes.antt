@@ -23,7 +23,7 @@ use Rattle.location_terms.specs.Plan.{Plan}
 use Rattle.location_terms.specs.Tree.{Tree, nodes_of}
 use Rattle.location_terms.specs.declared.claim.Claim.{Claim}
 use Rattle.location_terms.specs.declared.claim.Claim.TheVariants as claimed
-use Rattle.plan_search.specs.InBox.{HasNoCaps}
+use Rattle.tree_search.specs.Answer.{most_decisions}
 use Rattle.dualoc_cli.proofs.Causes.{task_valid}
 use Rattle.dualoc_cli.proofs.Searching.{tree_small}
 use Rattle.certificate_lines.specs.Text.{certificate_text}
@@ -83,7 +83,7 @@ data Outcome : Type 0 where
 -- the status suits what is due
 abbrev Suits : Outcome → Status → Type 0
 Suits (Exactly due) status = status ≡ due
-Suits (Search I budget) status = (status ≡ Done) ⊎ ((status ≡ Infeasible) ⊎ ((status ≡ Bracket) × (HasNoCaps I → budget < 2 ^ (length I.sites + 1))))
+Suits (Search I budget) status = (status ≡ Done) ⊎ ((status ≡ Infeasible) ⊎ ((status ≡ Bracket) × (budget < 2 ^ (most_decisions I + 1))))
 
 -- one status that suits
 abbrev due_of : Outcome → Status
@@ -196,18 +196,18 @@ module _ (r : Run) where
       task_is_due (Check name) I (Exactly Done) task
       (certificate_text I cert, held, (Ok (Yes cert.claim), accepted_yes_within MAX_CERTIFICATE_BYTES I cert (task_valid r (Check name) I task) deserved.accepted deserved.small deserved.within, refl))
 
-  -- the status of a claim is one that a search ends with; a tree without capacities is small, and with a bracket so is its budget
+  -- the status of a claim is one that a search ends with; its tree is small, and with a bracket so is its budget
   claim_suits : (I : Instance) (budget : ℕ) (claim : Claim) (plan : Option Plan) (tree : Tree) → IsEnd I budget claim plan tree
-      → (HasNoCaps I → nodes_of tree + 1 ≤ 2 ^ (length I.sites + 1)) → Suits (Search I budget) (status_of_claim claim)
+      → nodes_of tree + 1 ≤ 2 ^ (most_decisions I + 1) → Suits (Search I budget) (status_of_claim claim)
   claim_suits I budget (claimed.Optimal cost) plan tree end small = inl refl
   claim_suits I budget claimed.Infeasible plan tree end small = inr (inl refl)
-  claim_suits I budget (claimed.Bracket low high) plan tree end small = let spent = end.spent in inr (inr (refl, λ no_caps. let few = small no_caps in omega (arith, few, spent)))
+  claim_suits I budget (claimed.Bracket low high) plan tree end small = let spent = end.spent in inr (inr (refl, omega (arith, small, spent)))
 
   stored_suits : (claim : Claim) (nodes budget : ℕ) (a : IsStored r claim nodes budget) → Suits (Search a.instance budget) (status_of_claim claim)
   stored_suits claim nodes budget a =
       let found = a.result.found in
       claim_suits a.instance budget claim a.cert.plan a.cert.tree (subst (λ c. IsEnd a.instance budget c a.cert.plan a.cert.tree) a.claims found.end)
-      (λ no_caps. tree_small a.instance no_caps a.cert.tree found.grown)
+      (tree_small a.instance a.cert.tree found.grown)
 
   stored_is_due : (claim : Claim) (nodes budget : ℕ) (a : IsStored r claim nodes budget) → IsDue (Search a.instance budget)
   stored_is_due claim nodes budget a =

@@ -9,7 +9,6 @@ use Rattle.std.proofs.lemmas.List.Sums.{sum_by-le}
 use Rattle.std.proofs.lemmas.List.Elements.{All-nil, All-cons, All-head, All-tail}
 use Rattle.location_terms.specs.declared.limits.TheConstants.{MAX_AMOUNT, MAX_COST, MAX_SITES, MAX_CUSTOMERS}
 use Rattle.location_terms.specs.Instance.{Instance, Site, IsValid, lane, fixed_of}
-use Rattle.location_terms.specs.Plain.{IsPlain}
 use Rattle.location_terms.specs.Plan.{Plan, IsFeasible, served, cost_of}
 use Rattle.location_terms.specs.Box.{Path}
 use Rattle.location_terms.specs.Bound.{Duals, bound_of}
@@ -20,8 +19,7 @@ use Rattle.location_terms.proofs.Claims.{claim_holds}
 use Rattle.dual_value.specs.Zeros.{zeros}
 use Rattle.dual_value.proofs.Zeros.{zeros_fit}
 use Rattle.branch_tree.specs.Made.{leaf_of}
-use Rattle.tree_search.specs.Answer.{IsSearchStart, AreHeld, HasFreeCount, IsWithin, IsAnswerTo, cost_in, plan_in, tree_in, made_in, claim_in, certificate_in}
-use Rattle.plan_search.specs.InBox.{HasNoCaps}
+use Rattle.tree_search.specs.Answer.{IsSearchStart, AreHeld, most_decisions, IsWithin, IsAnswerTo, cost_in, plan_in, tree_in, made_in, claim_in, certificate_in}
 use Rattle.tree_search.specs.Grown.{IsGrownFrom}
 use Rattle.tree_search.proofs.Decided.{grown_within}
 use Rattle.tree_search.specs.declared.answer.Answer.{Answer}
@@ -73,12 +71,9 @@ at_zeros_told I = record { len = refl; each = by }
     by zero = not_held I
     by (suc k) = tt
 
--- without capacities a tree that grew from there is small
-pub tree_small : (I : Instance) → HasNoCaps I → (tree : Tree) → IsGrownFrom I None (leaf_of I (zeros I 1)) tree → nodes_of tree + 1 ≤ 2 ^ (length I.sites + 1)
-tree_small I no_caps tree grown = omega (arith, grown_within I no_caps (leaf_of I (zeros I 1)) None tree (false ∷ []) (at_zeros_told I) grown)
-
-pub plain_count : (I : Instance) → IsPlain I → HasFreeCount I
-plain_count I plain = record { lo = plain.none_asked; hi = plain.none_barred }
+-- a tree that grew from there is small
+pub tree_small : (I : Instance) (tree : Tree) → IsGrownFrom I None (leaf_of I (zeros I 1)) tree → nodes_of tree + 1 ≤ 2 ^ (most_decisions I + 1)
+tree_small I tree grown = omega (arith, grown_within I (leaf_of I (zeros I 1)) None tree (false ∷ []) (at_zeros_told I) grown)
 
 -- A search may start from there.
 module _ (I : Instance) (budget : ℕ) (small : budget ≤ max_budget I) where

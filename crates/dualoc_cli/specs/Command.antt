@@ -1,7 +1,7 @@
 -- The commands, by the words of a command line.
 use Rattle.std.specs.Prelude.{◌==◌, ℕ, Bool, true, false, ◌&&◌, not, List, [], ◌∷◌, length, take, drop, Option, None, Some, Result, Ok, Err, codes, decimal, bytes_eq, if◌then◌else◌}
 use Rattle.std.specs.List.{list_any}
-use Rattle.std.specs.Option.{option_map, option_and_then}
+use Rattle.std.specs.Option.{is_none, option_map, option_and_then, option_or}
 use Rattle.std.specs.Result.{result_ok}
 use Rattle.location_terms.specs.Instance.{Instance}
 use Rattle.fixed_cost.specs.Amount.{amount_of, count_of}
@@ -11,6 +11,7 @@ use Rattle.ufllib_read.specs.Ufl.{ufl_meaning}
 use Rattle.orlib_read.specs.Warehouses.{warehouse_meaning}
 use Rattle.orlib_read.specs.declared.capacities.Capacities.TheVariants.{Kept, Ignored}
 use Rattle.pmed_paths.specs.Pmed.{median_meaning}
+use Rattle.dualoc_cli.specs.declared.options.Options.{Options}
 use Rattle.dualoc_cli.specs.declared.words.FileForm.{FileForm}
 use Rattle.dualoc_cli.specs.declared.words.FileForm.TheVariants.{Cap, Uncap, Ufl, Pmed}
 
@@ -19,17 +20,6 @@ abbrev pub form_of : List ℕ → Option FileForm
 form_of word =
     if bytes_eq word (codes "cap") then Some Cap
     else (if bytes_eq word (codes "uncap") then Some Uncap else (if bytes_eq word (codes "ufl") then Some Ufl else (if bytes_eq word (codes "pmed") then Some Pmed else None)))
-
--- whether a search takes the instances of a form: there no site has a capacity, and any number of sites may be open
-abbrev pub is_searched : FileForm → Bool
-is_searched Cap = false
-is_searched Uncap = true
-is_searched Ufl = true
-is_searched Pmed = false
-
--- the form that a word names, where a search takes its instances
-unfoldable pub searched_form : List ℕ → Option FileForm
-searched_form word = option_and_then (λ form. if is_searched form then Some form else None) (form_of word)
 
 -- what the bytes of a file of a form mean: an instance, or the first fault; given is the amount of the option `capacity`, in millionths, where it is there
 abbrev pub meaning_of : FileForm → Option ℕ → List ℕ → Result Instance FileFault
@@ -43,6 +33,9 @@ pub record InstanceFile : Type 0 where
   pub form : FileForm
   pub name : List ℕ
   pub given : Option ℕ
+
+abbrev pub instance_file : FileForm → List ℕ → Option ℕ → InstanceFile
+instance_file form name given = record { form = form; name = name; given = given }
 
 -- what the bytes of such a file mean
 abbrev pub meaning_in : InstanceFile → List ℕ → Result Instance FileFault
@@ -70,10 +63,6 @@ abbrev pub are_names : List (List ℕ) → Bool
 are_names [] = true
 are_names (name ∷ names) = not (length name == 0) && not (list_any (bytes_eq name) names) && are_names names
 
--- a job on a file without options
-abbrev pub plain_command : Job → List ℕ → FileForm → Command
-plain_command job name form = OnFile (record { form = form; name = name; given = None }) job
-
 -- the count, where the word is just how it is printed
 abbrev pub printed_count : List ℕ → Result ℕ AmountFault → Option ℕ
 printed_count word (Ok n) = if bytes_eq word (decimal n) then Some n else None
@@ -87,42 +76,66 @@ budget_of word = if bytes_eq (take 7 word) (codes "budget=") then printed_count 
 abbrev pub capacity_of : List ℕ → Option ℕ
 capacity_of word = if bytes_eq (take 9 word) (codes "capacity=") then result_ok (amount_of (drop 9 word)) else None
 
--- a job on a file with the option `capacity`, which is for the form `cap` alone
-abbrev pub command_with : List ℕ → Job → List ℕ → List ℕ → Option Command
-command_with option job name form =
-    if bytes_eq form (codes "cap") then option_map (λ capacity. OnFile (record { form = Cap; name = name; given = Some capacity }) job) (capacity_of option) else None
+-- the options with these numbers, where they are there
+abbrev pub options_with : Option ℕ → Option ℕ → Options
+options_with budget capacity = record { budget = budget; capacity = capacity }
 
--- the words of the long form of `solve`, with the budget that is given, if one is
-abbrev pub search_of : List ℕ → List ℕ → ResultFiles → Option ℕ → Option Command
-search_of form file into given =
-    if are_names (file ∷ into.plan ∷ into.certificate ∷ []) then option_map (plain_command (SolveLong into given) file) (searched_form form) else None
+-- the option that a word is
+abbrev pub option_of : List ℕ → Option Options
+option_of word = option_or (option_map (λ n. options_with (Some n) None) (budget_of word)) (option_map (λ a. options_with None (Some a)) (capacity_of word))
+
+-- a budget and a capacity, where both are there
+abbrev pub both_options : Option ℕ → Option ℕ → Option Options
+both_options (Some budget) (Some capacity) = Some (options_with (Some budget) (Some capacity))
+both_options _ _ = None
+
+-- the options that the words behind the names are, each at most once and in either order
+unfoldable pub options_of : List (List ℕ) → Option Options
+options_of [] = Some (options_with None None)
+options_of (word ∷ []) = option_of word
+options_of (one ∷ other ∷ []) = option_or (both_options (budget_of one) (capacity_of other)) (both_options (budget_of other) (capacity_of one))
+options_of _ = None
+
+-- the file that a form and a name are words for; a capacity may be given with the form `cap` alone
+abbrev pub file_of : List ℕ → List ℕ → Option ℕ → Option InstanceFile
+file_of form name None = option_map (λ f. instance_file f name None) (form_of form)
+file_of form name (Some capacity) = if bytes_eq form (codes "cap") then Some (instance_file Cap name (Some capacity)) else None
+
+-- a job on that file
+abbrev pub job_on : List ℕ → List ℕ → Job → Option ℕ → Option Command
+job_on form name job capacity = option_map (λ file. OnFile file job) (file_of form name capacity)
+
+-- a job on that file that takes no budget
+unfoldable pub unbudgeted : List ℕ → List ℕ → Job → Options → Option Command
+unbudgeted form name job options = if is_none options.budget then job_on form name job options.capacity else None
 
 abbrev pub into_files : List ℕ → List ℕ → ResultFiles
 into_files plan certificate = record { plan = plan; certificate = certificate }
 
--- the words of the short form of `solve`, which is for the form `ufl` alone
+-- the short form of `solve`, which is for the form `ufl` alone
 abbrev pub short_of : List ℕ → List ℕ → Option Command
-short_of form file = if bytes_eq form (codes "ufl") && are_names (file ∷ []) then Some (plain_command SolveShort file Ufl) else None
+short_of form name = if bytes_eq form (codes "ufl") && are_names (name ∷ []) then Some (OnFile (instance_file Ufl name None) SolveShort) else None
+
+-- the long form of `solve`, which may take a budget
+unfoldable pub long_of : List ℕ → List ℕ → ResultFiles → Option Options → Option Command
+long_of form name into options =
+    if are_names (name ∷ into.plan ∷ into.certificate ∷ []) then option_and_then (λ o. job_on form name (SolveLong into o.budget) o.capacity) options else None
 
 -- the words behind `solve`
-abbrev pub solve_of : List (List ℕ) → Option Command
+unfoldable pub solve_of : List (List ℕ) → Option Command
 solve_of (form ∷ file ∷ []) = short_of form file
-solve_of (form ∷ file ∷ plan ∷ certificate ∷ []) = search_of form file (into_files plan certificate) None
-solve_of (form ∷ file ∷ plan ∷ certificate ∷ option ∷ []) = option_and_then (λ budget. search_of form file (into_files plan certificate) (Some budget)) (budget_of option)
+solve_of (form ∷ file ∷ plan ∷ certificate ∷ options) = long_of form file (into_files plan certificate) (options_of options)
 solve_of _ = None
 
 -- the words behind `duals`
-abbrev pub duals_of : List (List ℕ) → Option Command
-duals_of (form ∷ file ∷ []) = if are_names (file ∷ []) then option_map (plain_command ShowDuals file) (form_of form) else None
-duals_of (form ∷ file ∷ option ∷ []) = if are_names (file ∷ []) then command_with option ShowDuals file form else None
+unfoldable pub duals_of : List (List ℕ) → Option Command
+duals_of (form ∷ file ∷ options) = if are_names (file ∷ []) then option_and_then (unbudgeted form file ShowDuals) (options_of options) else None
 duals_of _ = None
 
 -- the words behind `check`
-abbrev pub check_of : List (List ℕ) → Option Command
-check_of (form ∷ file ∷ certificate ∷ []) =
-    if are_names (file ∷ certificate ∷ []) then option_map (plain_command (Check certificate) file) (form_of form) else None
-check_of (form ∷ file ∷ certificate ∷ option ∷ []) =
-    if are_names (file ∷ certificate ∷ []) then command_with option (Check certificate) file form else None
+unfoldable pub check_of : List (List ℕ) → Option Command
+check_of (form ∷ file ∷ certificate ∷ options) =
+    if are_names (file ∷ certificate ∷ []) then option_and_then (unbudgeted form file (Check certificate)) (options_of options) else None
 check_of _ = None
 
 -- the command of the words, if they are those of one

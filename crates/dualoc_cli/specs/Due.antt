@@ -20,7 +20,7 @@ use Rattle.dual_ascent.specs.Ascent.{IsAscended, IsBlocked}
 use Rattle.plan_search.specs.InBox.{HasNoCaps}
 use Rattle.branch_tree.specs.Made.{leaf_of}
 use Rattle.tree_search.specs.Grown.{IsGrownFrom, PlansWereSought}
-use Rattle.tree_search.specs.Answer.{HasFreeCount, HasOpenLeaf}
+use Rattle.tree_search.specs.Answer.{HasFreeCount, HasOpenLeaf, most_decisions}
 use Rattle.tree_search.specs.declared.limits.TheConstants.{MAX_DUALS}
 use Rattle.report.specs.PlanText.{plan_text_of}
 use Rattle.certificate_lines.specs.Text.{certificate_text}
@@ -139,7 +139,8 @@ pub record HasSearch (r : Run) (into : ResultFiles) (I : Instance) (budget : ℕ
   pub within : budget ≤ max_budget I
 
 -- Why a search ends with a bracket: its budget is spent, since of its nodes all but the first were made by splits, and one more split would make two more than it
--- allows; and a leaf is open. The low end is the one that its tree shows, and a plan is missing only where capacities or the number of open sites may forbid one.
+-- allows; and a leaf is open. The low end is the one that its tree shows. A plan is missing only where some site has a capacity, a number of sites has to be open, or not
+-- all of them may be; and then packing on a leaf's tight sites gave none at any leaf of scale 1 or more, which is what `sought`, below, comes to without a plan.
 pub record IsCutShort (I : Instance) (budget low : ℕ) (plan : Option Plan) (tree : Tree) : Type 0 where
   pub spent : budget < nodes_of tree + 1
   pub unfinished : HasOpenLeaf I tree plan
@@ -356,10 +357,10 @@ pub record IsChecked (r : Run) (name : List ℕ) (I : Instance) (status : Status
   pub accepted : (cert : Certificate) → DeservesYes I cert → MayHold r.before.shelf.files name (certificate_text I cert) → EndsAs r Done status
   pub otherwise : (bytes : List ℕ) → MayHold r.before.shelf.files name bytes → length bytes ≤ MAX_CERTIFICATE_BYTES → (status ≡ Done) ⊎ EndsAs r CheckNo status
 
--- What is due for a search with this budget: it ends with an optimal plan, shows that there is none, or ends with a bracket. Where no site has a capacity, a bracket
--- comes only with a budget that not all ways to open and close the sites fit into. What hinders a run is the same for all three, so it stands with the first.
+-- What is due for a search with this budget: it ends with an optimal plan, shows that there is none, or ends with a bracket, which comes only with a budget that not
+-- all ways to take the decisions of its splits fit into. What hinders a run is the same for all three, so it stands with the first.
 abbrev pub EndsSearch : Run → Instance → ℕ → Status → Type 0
-EndsSearch r I budget status = EndsAs r Done status ⊎ ((status ≡ Infeasible) ⊎ ((status ≡ Bracket) × (HasNoCaps I → budget < 2 ^ (length I.sites + 1))))
+EndsSearch r I budget status = EndsAs r Done status ⊎ ((status ≡ Infeasible) ⊎ ((status ≡ Bracket) × (budget < 2 ^ (most_decisions I + 1))))
 
 -- what is due for a job on an instance, where the files are told
 abbrev pub IsComplete : Run → Job → Instance → Status → Type 0

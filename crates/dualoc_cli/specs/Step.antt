@@ -1,5 +1,5 @@
 -- What the parts of a run say of it.
-use Rattle.std.specs.Prelude.{◌≡◌, true}
+use Rattle.std.specs.Prelude.{◌≡◌}
 use Rattle.shelf_port.specs.Files.{NeverFalls}
 use Rattle.shelf_port.specs.Ports.{ShelfState}
 use Rattle.location_terms.specs.Plan.{IsFeasible}
@@ -7,12 +7,13 @@ use Rattle.instance_store.specs.Small.{IsSmall}
 use Rattle.report.specs.DualsText.{ArePrintable}
 use Rattle.dualoc_cli.specs.declared.reply.Reply.{Reply}
 use Rattle.dualoc_cli.specs.declared.reply.Reply.TheVariants.{NoCommand, InstanceUnread, LongInstance, Faulty, ManySites, Optimum, LargeBudget, Unwritten, Searched, Ascent, CertificateUnread, LongCertificate, Misspelt, Judged}
+use Rattle.dualoc_cli.specs.declared.words.FileForm.TheVariants.{Ufl}
 use Rattle.dualoc_cli.specs.declared.words.Command as told
 use Rattle.dualoc_cli.specs.declared.words.InstanceFile as told_file
 use Rattle.dualoc_cli.specs.declared.words.Job as told_job
 use Rattle.dualoc_cli.specs.declared.words.ResultFiles as told_result
 use Rattle.dualoc_cli.specs.declared.words.Job.TheVariants as in_memory
-use Rattle.dualoc_cli.specs.Command.{InstanceFile, ResultFiles, into_files, Job, SolveShort, SolveLong, ShowDuals, Check, Command, OnFile, is_searched}
+use Rattle.dualoc_cli.specs.Command.{InstanceFile, ResultFiles, into_files, Job, SolveShort, SolveLong, ShowDuals, Check, Command, OnFile}
 use Rattle.dualoc_cli.specs.Due.{Run}
 
 -- what a command in memory asks for
@@ -31,17 +32,10 @@ asked_job (in_memory.Check certificate) = Check certificate.now
 abbrev pub asked : told.Command → Command
 asked command = OnFile (asked_file command.file) (asked_job command.job)
 
--- whether a job is to solve the instance
-abbrev pub Solves : Job → Type 0
-Solves SolveShort = Unit {0}
-Solves (SolveLong into given) = Unit {0}
-Solves ShowDuals = ⊥
-Solves (Check certificate) = ⊥
-
--- what is so of every command: what it gives for the word `capacity` is an amount, and what it is to solve is of a form that is searched
+-- what is so of every command: what it gives for the word `capacity` is an amount, and the sets of sites are walked over in files of the form `ufl` alone
 pub record IsSuited (file : InstanceFile) (job : Job) : Type 0 where
   pub small : IsSmall file.given
-  pub searched : Solves job → is_searched file.form ≡ true
+  pub short : job ≡ SolveShort → file.form ≡ Ufl
 
 -- A part of the run had the shelf so at its start and at its end. No file was changed before it or behind it, and no count of faults fell.
 pub record Covers (r : Run) (old new : ShelfState) : Type 0 where

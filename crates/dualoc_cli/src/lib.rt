@@ -5,6 +5,7 @@
 #![tactic(auto)]
 
 mod limits;
+mod options;
 mod program;
 mod reply;
 mod search;

@@ -3,7 +3,6 @@ ghost use Rattle.std.specs.Prelude.{◌≡◌, ◌*◌, ◌+◌, ◌≤◌, IfOk
 ghost use Rattle.shelf_port.specs.Files.{NeverFalls};
 ghost use Rattle.shelf_port.specs.Ports.{shelf_state};
 ghost use Rattle.location_terms.specs.Instance.{Instance as Terms};
-ghost use Rattle.location_terms.specs.Plain.{IsPlain};
 ghost use Rattle.location_terms.specs.Plan.{IsFeasible};
 ghost use Rattle.std.specs.Option.{option_copied};
 ghost use Rattle.tree_search.specs.Answer.{certificate_in, cost_in, plan_in};
@@ -36,7 +35,6 @@ pub fn search<H: Shelf>(
     given: Option<u32>,
     shelf: &mut H,
 ) -> Result<Reply, NoMemory>
-    requires { IsPlain inst.now }
     ensures cause { IfOk result (λ reply. (r : Run) → HasTask r (SolveLong (asked_result into.entry) given) inst.now →
         Covers r (shelf_state (H.files shelf.old) (H.read_faults shelf.old) (H.write_faults shelf.old))
         (shelf_state (H.files shelf.new) (H.read_faults shelf.new) (H.write_faults shelf.new)) →
@@ -78,8 +76,7 @@ fn budget_in(greatest: u32, given: Option<u32>) -> u32
 
 // What a search of the instance comes to, from one leaf of zeros and without a plan.
 fn found(alloc: Global, inst: &Instance, budget: u32) -> Result<Certificate, NoMemory>
-    requires plain { IsPlain inst.now }
-    requires within { budget ≤ max_budget inst.now }
+    requires { budget ≤ max_budget inst.now }
     ensures { IfOk result (λ cert. IsFound inst.now budget (certificate_of cert)) }
 {
     let _places = inst.sites();

@@ -1,14 +1,14 @@
 //! What a run answers to its words.
-ghost use Rattle.std.specs.Prelude.{◌≡◌, ◌≤◌, true, Some, IfOk, length, map, string_bytes};
+ghost use Rattle.std.specs.Prelude.{◌≡◌, ◌≤◌, Some, IfOk, length, map, string_bytes};
 ghost use Rattle.shelf_port.specs.Files.{NeverFalls};
 ghost use Rattle.shelf_port.specs.Ports.{shelf_state};
 ghost use Rattle.location_terms.specs.Plain.{IsPlain};
 ghost use Rattle.fixed_cost.specs.Reading.{Means};
 ghost use Rattle.instance_store.specs.Small.{IsSmall};
-ghost use Rattle.dualoc_cli.specs.Command.{OnFile, SolveShort, ShowDuals, Check, command_of, is_searched, meaning_in};
+ghost use Rattle.dualoc_cli.specs.Command.{OnFile, SolveShort, ShowDuals, Check, command_of, meaning_in};
 ghost use Rattle.dualoc_cli.specs.Reply.{status_of};
 ghost use Rattle.dualoc_cli.specs.Due.{Run, HasTask, Keeps, Leaves, IsCause, IsRefusal};
-ghost use Rattle.dualoc_cli.specs.Step.{asked, asked_file, asked_job, Solves, IsSuited, Covers};
+ghost use Rattle.dualoc_cli.specs.Step.{asked, asked_file, asked_job, IsSuited, Covers};
 
 use crate::reply::Reply;
 use crate::search::search;
@@ -73,7 +73,7 @@ fn read(alloc: Global, file: InstanceFile<'_>, bytes: &[u8]) -> Result<Instance,
     requires small { IsSmall file.given }
     requires within { length bytes.now ≤ MAX_INSTANCE_BYTES }
     ensures meaning { Means (λ inst. inst) result (meaning_in (asked_file file.entry) bytes.now) }
-    ensures plain { IfOk result (λ inst. is_searched file.entry.form ≡ true → IsPlain inst) }
+    ensures plain { IfOk result (λ inst. file.entry.form ≡ FileForm.Ufl → IsPlain inst) }
 {
     match file.form {
         FileForm::Cap => orlib_read::read_cap(alloc, bytes, amount(file.given)),
@@ -98,7 +98,7 @@ fn work<H: Shelf>(
     inst: Instance,
     shelf: &mut H,
 ) -> Result<Reply, NoMemory>
-    requires { Solves (asked_job job) → IsPlain inst }
+    requires { asked_job job ≡ SolveShort → IsPlain inst }
     ensures cause { IfOk result (λ reply. (r : Run) → HasTask r (asked_job job.entry) inst →
         Covers r (shelf_state (H.files shelf.old) (H.read_faults shelf.old) (H.write_faults shelf.old))
         (shelf_state (H.files shelf.new) (H.read_faults shelf.new) (H.write_faults shelf.new)) →

@@ -1,11 +1,9 @@
 ghost use Rattle.std.specs.Prelude.{◌≡◌, [], ◌∷◌, map, string_bytes};
 ghost use Rattle.std.specs.Option.{option_map};
-ghost use Rattle.dualoc_cli.specs.Command.{command_of, into_files, solve_of, short_of, search_of, budget_of, printed_count, capacity_of, command_with, duals_of, check_of, are_names, form_of, is_searched, searched_form, plain_command};
-ghost use Rattle.fixed_cost.specs.Amount.{count_of};
-ghost use Rattle.dualoc_cli.specs.Step.{asked, asked_job, asked_result};
+ghost use Rattle.dualoc_cli.specs.Command.{command_of, solve_of, short_of, long_of, duals_of, check_of, unbudgeted, job_on, file_of, form_of, are_names};
+ghost use Rattle.dualoc_cli.specs.Step.{asked, asked_file, asked_job, asked_result};
 
-use fixed_cost::{Amount, read_count};
-use itoa::Buffer;
+use crate::options::Options;
 
 /// A form of instance files.
 #[derive(Clone, Copy, Debug, PartialEq, Eq)]
@@ -33,22 +31,6 @@ impl FileForm {
             _ => None,
         }
     }
-
-    // The form that a word names, where a search takes its instances.
-    #[tactic(auto, unfolding(crate::specs::Command::searched_form))]
-    fn searched(word: &str) -> Option<FileForm>
-        ensures { result ≡ searched_form word.now }
-    {
-        let form = FileForm::of(word)?;
-        if form.is_searched() { Some(form) } else { None }
-    }
-
-    // Whether no site of an instance of this form has a capacity, and any number of sites may be open.
-    fn is_searched(self) -> bool
-        ensures { result ≡ is_searched self }
-    {
-        matches!(self, FileForm::Uncap | FileForm::Ufl)
-    }
 }
 
 /// The file of an instance.
@@ -58,6 +40,19 @@ pub struct InstanceFile<'a> {
     pub name: &'a str,
     /// The amount of the option `capacity`, in millionths, where it is there.
     pub given: Option<u64>,
+}
+
+impl<'a> InstanceFile<'a> {
+    // The file that a form and a name are words for. A capacity may be given with the form `cap` alone.
+    fn of(form: &str, name: &'a str, given: Option<u64>) -> Option<InstanceFile<'a>>
+        ensures { option_map asked_file result ≡ file_of form.now name.now given }
+    {
+        let form = FileForm::of(form)?;
+        if given.is_some() && !matches!(form, FileForm::Cap) {
+            return None;
+        }
+        Some(InstanceFile { form, name, given })
+    }
 }
 
 /// The names of the files into which the result of a search is written.
@@ -106,149 +101,107 @@ impl<'a> Command<'a> {
 }
 
 // The words behind `solve`.
+#[tactic(auto, unfolding(crate::specs::Command::solve_of))]
 fn solve(words: &[String]) -> Option<Command<'_>>
     ensures { option_map asked result ≡ solve_of (map string_bytes words.now) }
 {
-    match words {
-        [form, file] => short(form.as_str(), file.as_str()),
-        [form, file, plan, certificate] => {
-            search(form.as_str(), file.as_str(), into(plan, certificate), None)
-        }
-        [form, file, plan, certificate, option] => {
-            let budget = budget(option.as_str())?;
-            search(
-                form.as_str(),
-                file.as_str(),
-                into(plan, certificate),
-                Some(budget),
-            )
-        }
-        _ => None,
+    if let [form, file] = words {
+        return short(form.as_str(), file.as_str());
     }
-}
-
-// The command of the short form of `solve`.
-fn short<'a>(form: &str, file: &'a str) -> Option<Command<'a>>
-    ensures { option_map asked result ≡ short_of form.now file.now }
-{
-    if form == "ufl" && !file.is_empty() {
-        Some(plain(Job::SolveShort, file, FileForm::Ufl))
-    } else {
-        None
-    }
-}
-
-// The files of a result, by their names.
-fn into<'a>(plan: &'a String, certificate: &'a String) -> ResultFiles<'a>
-    ensures { asked_result result ≡ into_files (string_bytes plan.now) (string_bytes certificate.now) }
-{
-    ResultFiles {
+    let [form, file, plan, certificate, options @ ..] = words else {
+        return None;
+    };
+    let into = ResultFiles {
         plan: plan.as_str(),
         certificate: certificate.as_str(),
-    }
+    };
+    long(form.as_str(), file.as_str(), into, Options::of(options))
 }
 
-// The command of the long form of `solve`.
-fn search<'a>(
-    form: &str,
-    file: &'a str,
-    into: ResultFiles<'a>,
-    budget: Option<u32>,
-) -> Option<Command<'a>>
-    ensures { option_map asked result ≡ search_of form.now file.now (asked_result into.entry) budget }
+// The short form of `solve`.
+fn short<'a>(form: &str, name: &'a str) -> Option<Command<'a>>
+    ensures { option_map asked result ≡ short_of form.now name.now }
 {
-    if !are_apart(file, into.plan, into.certificate) {
+    if form != "ufl" || name.is_empty() {
         return None;
     }
-    let form = FileForm::searched(form)?;
-    Some(plain(Job::SolveLong(into, budget), file, form))
-}
-
-// The budget that an option gives, if it is one.
-fn budget(option: &str) -> Option<u32>
-    ensures { result ≡ budget_of option.now }
-{
-    let digits = option.as_bytes().strip_prefix(b"budget=")?;
-    printed_count(digits)
-}
-
-// The count that digits spell, where they are just how it is printed.
-fn printed_count(digits: &[u8]) -> Option<u32>
-    ensures { result ≡ printed_count digits.now (count_of digits.now) }
-{
-    match read_count(digits) {
-        Ok(count) if digits == Buffer::new().format(count).as_bytes() => Some(count),
-        _ => None,
-    }
-}
-
-// The words behind `duals`.
-fn duals(words: &[String]) -> Option<Command<'_>>
-    ensures { option_map asked result ≡ duals_of (map string_bytes words.now) }
-{
-    match words {
-        [form, file] if !file.is_empty() => {
-            let form = FileForm::of(form.as_str())?;
-            Some(plain(Job::ShowDuals, file.as_str(), form))
-        }
-        [form, file, option] if !file.is_empty() => with_capacity(
-            option.as_str(),
-            Job::ShowDuals,
-            file.as_str(),
-            form.as_str(),
-        ),
-        _ => None,
-    }
-}
-
-// The words behind `check`.
-fn check(words: &[String]) -> Option<Command<'_>>
-    ensures { option_map asked result ≡ check_of (map string_bytes words.now) }
-{
-    match words {
-        [form, file, certificate] if are_names(file.as_str(), certificate.as_str()) => {
-            let form = FileForm::of(form.as_str())?;
-            Some(plain(Job::Check(certificate.as_str()), file.as_str(), form))
-        }
-        [form, file, certificate, option] if are_names(file.as_str(), certificate.as_str()) => {
-            with_capacity(
-                option.as_str(),
-                Job::Check(certificate.as_str()),
-                file.as_str(),
-                form.as_str(),
-            )
-        }
-        _ => None,
-    }
-}
-
-// A job on a file of the form `cap`, with the option `capacity`.
-fn with_capacity<'a>(option: &str, job: Job<'a>, name: &'a str, form: &str) -> Option<Command<'a>>
-    ensures { option_map asked result ≡ command_with option.now (asked_job job.entry) name.now form.now }
-{
-    if form != "cap" {
-        return None;
-    }
-    let given = Some(capacity(option)?);
+    let file = InstanceFile {
+        form: FileForm::Ufl,
+        name,
+        given: None,
+    };
     Some(Command {
-        file: InstanceFile {
-            form: FileForm::Cap,
-            name,
-            given,
-        },
-        job,
+        file,
+        job: Job::SolveShort,
     })
 }
 
-// The capacity that an option gives, in millionths, if it is one.
-fn capacity(option: &str) -> Option<u64>
-    ensures { result ≡ capacity_of option.now }
+// The long form of `solve`, which may take a budget.
+#[tactic(auto, unfolding(crate::specs::Command::long_of))]
+fn long<'a>(
+    form: &str,
+    name: &'a str,
+    into: ResultFiles<'a>,
+    options: Option<Options>,
+) -> Option<Command<'a>>
+    ensures { option_map asked result ≡ long_of form.now name.now (asked_result into.entry) options }
 {
-    let word = option.as_bytes().strip_prefix(b"capacity=")?;
-    match Amount::read(word) {
-        Ok(amount) => Some(amount.micro()),
-        Err(_) => None,
+    if !are_apart(name, into.plan, into.certificate) {
+        return None;
     }
+    let options = options?;
+    let job = Job::SolveLong(into, options.budget);
+    job_on(form, name, job, options.capacity)
+}
+
+// The words behind `duals`.
+#[tactic(auto, unfolding(crate::specs::Command::duals_of))]
+fn duals(words: &[String]) -> Option<Command<'_>>
+    ensures { option_map asked result ≡ duals_of (map string_bytes words.now) }
+{
+    let [form, file, options @ ..] = words else {
+        return None;
+    };
+    if file.is_empty() {
+        return None;
+    }
+    let options = Options::of(options)?;
+    unbudgeted(form.as_str(), file.as_str(), Job::ShowDuals, options)
+}
+
+// The words behind `check`.
+#[tactic(auto, unfolding(crate::specs::Command::check_of))]
+fn check(words: &[String]) -> Option<Command<'_>>
+    ensures { option_map asked result ≡ check_of (map string_bytes words.now) }
+{
+    let [form, file, certificate, options @ ..] = words else {
+        return None;
+    };
+    let (file, certificate) = (file.as_str(), certificate.as_str());
+    if !are_names(file, certificate) {
+        return None;
+    }
+    let options = Options::of(options)?;
+    unbudgeted(form.as_str(), file, Job::Check(certificate), options)
+}
+
+// A job on a file that takes no budget.
+#[tactic(auto, unfolding(crate::specs::Command::unbudgeted))]
+fn unbudgeted<'a>(form: &str, name: &'a str, job: Job<'a>, options: Options) -> Option<Command<'a>>
+    ensures { option_map asked result ≡ unbudgeted form.now name.now (asked_job job.entry) options }
+{
+    if options.budget.is_some() {
+        return None;
+    }
+    job_on(form, name, job, options.capacity)
+}
+
+// A job on a file, with the capacity that is given.
+fn job_on<'a>(form: &str, name: &'a str, job: Job<'a>, capacity: Option<u64>) -> Option<Command<'a>>
+    ensures { option_map asked result ≡ job_on form.now name.now (asked_job job.entry) capacity }
+{
+    let file = InstanceFile::of(form, name, capacity)?;
+    Some(Command { file, job })
 }
 
 // Whether the names of three files are not empty, and all different.
@@ -263,18 +216,4 @@ fn are_names(one: &str, other: &str) -> bool
     ensures { result ≡ are_names (one.now ∷ other.now ∷ []) }
 {
     !one.is_empty() && one != other && !other.is_empty()
-}
-
-// A job on a file without options.
-fn plain<'a>(job: Job<'a>, name: &'a str, form: FileForm) -> Command<'a>
-    ensures { asked result ≡ plain_command (asked_job job.entry) name.now form }
-{
-    Command {
-        file: InstanceFile {
-            form,
-            name,
-            given: None,
-        },
-        job,
-    }
 }

@@ -5,9 +5,9 @@ use std::alloc::Global;
 use std::test::Fail;
 
 // Two warehouses and two customers, whose capacities are numbers or stand for that of the option.
-const WAREHOUSES: &str = "2 2\n10 7500\n10 .5\n6 6739.725 1.25\n6 3 4\n";
+pub(crate) const WAREHOUSES: &str = "2 2\n10 7500\n10 .5\n6 6739.725 1.25\n6 3 4\n";
 
-const WORDED: &str = "2 2\ncapacity 7500\ncapacity .5\n6 6739.725 1.25\n6 3 4\n";
+pub(crate) const WORDED: &str = "2 2\ncapacity 7500\ncapacity .5\n6 6739.725 1.25\n6 3 4\n";
 
 const ITS_DUALS: &str =
     "bound 5.750000\ncustomer 1 1.750000\ncustomer 2 4.000000\nsite 1 7499.000000\nsite 2 0.000000\n";
@@ -31,7 +31,7 @@ const NONE_FITS: &str =
     "dualoc-certificate 1\nsites 1 customers 2\nclaim infeasible\nsite 1\nleaf 0 0\nv 1 0\nu\nleaf 0 0\nv 6000000 6000000\nu 1 1\nend\n";
 
 // Three vertices in a row and one median. The last edge between 1 and 2 counts.
-const NETWORK: &str = "3 3 1\n1 2 5\n2 3 7\n1 2 4\n";
+pub(crate) const NETWORK: &str = "3 3 1\n1 2 5\n2 3 7\n1 2 4\n";
 
 // The best median is vertex 2, for 4 + 0 + 7.
 const ITS_MEDIAN: &str =
@@ -87,15 +87,17 @@ const REFUSED: [(&[&str], Status, &str); 5] = [
 ];
 
 // Words that are no command.
-const NO_COMMANDS: [&[&str]; 19] = [
+const NO_COMMANDS: [&[&str]; 21] = [
     &["duals", "own", "a"],
     &["duals", "cap", "a", "capacity=1000000000"],
     &["solve", "uncap", "a", "p", "c", "budget=01"],
     &["check", "cap", "a", "c", "capacity=1", "capacity=1"],
     &["check", "cap", "a", "c", "budget=1"],
     &["solve", "uncap", "a"],
-    &["solve", "cap", "a", "p", "c"],
-    &["solve", "pmed", "a", "p", "c"],
+    &["solve", "pmed", "a"],
+    &["solve", "cap", "a", "p", "c", "budget=1", "budget=1"],
+    &["solve", "cap", "a", "p", "c", "capacity=1", "capacity=1"],
+    &["solve", "pmed", "a", "p", "c", "capacity=1", "budget=1"],
     &["solve", "uncap", "a", "p", "c", "capacity=1"],
     &["duals", "ufl", "a", "capacity=1"],
     &["duals", "uncap", "a", "capacity=1"],

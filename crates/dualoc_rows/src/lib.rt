@@ -9,4 +9,6 @@ mod forms;
 #[cfg(test)]
 mod rows;
 #[cfg(test)]
+mod searches;
+#[cfg(test)]
 mod solves;

@@ -93,6 +93,14 @@ impl Outcome {
         self.status == status && self.text.as_slice() == text.as_bytes()
     }
 
+    pub(crate) fn begins(&self, status: Status, front: &str) -> bool {
+        self.status == status && self.text.as_slice().starts_with(front.as_bytes())
+    }
+
+    pub(crate) fn ends(&self, status: Status, end: &str) -> bool {
+        self.status == status && self.text.as_slice().ends_with(end.as_bytes())
+    }
+
     pub(crate) fn leaves(&self, plan: &str, certificate: &[u8]) -> bool {
         self.plan.as_slice() == plan.as_bytes() && self.certificate.as_slice() == certificate
     }
