@@ -1,19 +1,24 @@
 """Solves an instance with other solvers that are installed: `peers.py [--limit SECONDS] PROGRAM INSTANCE [COST]`.
 
 These are GLPK (`glpsol`), SYMPHONY, CBC, and HiGHS as SciPy has it, each as it is by default but for the gap, which has
-to be 0. All get the same model: a binary variable for each site, one between 0 and 1 for each lane, an equation for
-each customer, and for each lane that it is used only from an open site. Of the first three all processor seconds of the
-run are printed, with the reading of the model, and of HiGHS those of the call, whose limit is one of wall seconds.
+to be 0. The form of the instance is the ending of its name: `ufl`, `uncap`, `cap` or `pmed`. All solvers get the same
+model: a binary variable for each site, one between 0 and 1 for each lane, which is a binary one where capacities count, an
+equation for each customer, for each lane that it is used only from an open site, for each capacity that it is enough for
+what is served from an open site and 0 else, and of a network how many vertices are open. Of the first three all processor
+seconds of the run are printed, with the reading of the model, and of HiGHS those of the call, whose limit is one of wall
+seconds.
 
 Where COST, what some plan of the instance costs, is given, the lanes are left out that no plan uses which costs at most
-that. They are found by what `PROGRAM duals ufl` prints: no slack is below 0, so of each open site the customers' duals
+that. They are found by what `PROGRAM duals` prints: no slack is below 0, so of each open site the customers' duals
 above the costs of its lanes come to its fixed cost less its slack. A plan pays the fixed cost and the lane, so that a
 customer costs it at least its dual, and at least the lane, and an open site its slack besides. Hence a plan that serves
 customer `j` from site `i` costs at least the bound, the slack of `i`, and what the lane costs above the dual of `j`.
 Where that is above COST, the lane is in no cheapest plan; and all lanes of a cheapest one stay, so that the least cost
-of the model is that of the instance.
+of the model is that of the instance. Capacities only take plans away. Of a network with `p` medians the lanes stay that
+cost a vertex no more than its dearest but `p - 1`, since one of the others leads to a median wherever those do.
 """
 import argparse
+import heapq
 import importlib.util
 import os
 import re
@@ -47,14 +52,77 @@ def words_of(path):
                 yield from line.split()
 
 
+class Instance:
+    """Fixed costs and demands, rows of lanes by site, in millionths; the sites' capacities, where they count; and how many
+    sites have to be open, where that is given. Places count from 0."""
+
+    def __init__(self, fixed, rows, rooms=None, demands=None, count=None):
+        self.fixed, self.rows, self.rooms, self.demands, self.count = fixed, rows, rooms, demands, count
+        self.customers = len(rows[0])
+
+
+def form_of(path):
+    return path.rpartition(".")[2]
+
+
+def whole(word):
+    return micro(word) // MICRO
+
+
+def read_ufl(words):
+    m, n, _ = (whole(next(words)) for _ in range(3))
+    rows = [[micro(next(words)) for _ in range(n + 2)] for _ in range(m)]
+    return Instance([row[1] for row in rows], [row[2:] for row in rows])
+
+
+def read_warehouses(words, with_rooms):
+    m, n = whole(next(words)), whole(next(words))
+    sites = [(next(words), micro(next(words))) for _ in range(m)]
+    customers = [[micro(next(words)) for _ in range(m + 1)] for _ in range(n)]
+    rooms = [micro(room) for room, _ in sites] if with_rooms else None
+    rows = [[row[site + 1] for row in customers] for site in range(m)]
+    return Instance([fixed for _, fixed in sites], rows, rooms, [row[0] for row in customers])
+
+
+def walks_from(start, edges):
+    """The costs of the cheapest walks from a vertex to all vertices, which the network has to join."""
+    costs, queue = {start: 0}, [(0, start)]
+    while queue:
+        cost, vertex = heapq.heappop(queue)
+        if cost > costs[vertex]:
+            continue
+        for other, more in edges[vertex].items():
+            if cost + more < costs.get(other, cost + more + 1):
+                costs[other] = cost + more
+                heapq.heappush(queue, (cost + more, other))
+    return [costs[vertex] for vertex in range(len(edges))]
+
+
+def read_network(words):
+    n, m, p = (whole(next(words)) for _ in range(3))
+    edges = [{} for _ in range(n)]
+    for _ in range(m):
+        a, b, cost = whole(next(words)) - 1, whole(next(words)) - 1, micro(next(words))
+        if a != b:
+            edges[a][b] = edges[b][a] = cost
+    return Instance([0] * n, [walks_from(vertex, edges) for vertex in range(n)], count=p)
+
+
+def read(path):
+    words, form = words_of(path), form_of(path)
+    if form == "ufl":
+        return read_ufl(words)
+    return read_network(words) if form == "pmed" else read_warehouses(words, form == "cap")
+
+
 class Useful:
     """Which lanes can be in a plan that costs at most a limit."""
 
-    def __init__(self, program, instance, cost, limit):
+    def __init__(self, program, path, cost, limit):
         self.limit, self.bound, self.duals, self.slacks = None, 0, {}, {}
         if cost is None:
             return
-        run = Run([program, "duals", "ufl", instance], limit)
+        run = Run([program, "duals", form_of(path), path], limit)
         if run.status:
             print(f"    duals ended with {run.status}: all lanes are in the model")
             return
@@ -64,7 +132,7 @@ class Useful:
             if kind == "bound":
                 self.bound = micro(words[0])
             else:
-                (self.duals if kind == "customer" else self.slacks)[int(words[0])] = micro(words[1])
+                (self.duals if kind == "customer" else self.slacks)[int(words[0]) - 1] = micro(words[1])
 
     def has(self, site, customer, cost):
         if self.limit is None:
@@ -73,36 +141,41 @@ class Useful:
 
 
 class Model:
-    """The sites and lanes that can matter: fixed costs by site, and lanes as site, customer and cost, in millionths."""
+    """The sites and lanes that can matter, lanes as site, customer and cost in millionths."""
 
     def __init__(self, instance, useful):
-        words = words_of(instance)
-        m, self.customers, _ = (int(float(next(words))) for _ in range(3))
-        self.fixed, self.lanes, self.of = {}, [], m * self.customers
-        for site in range(1, m + 1):
-            next(words)
-            fixed = micro(next(words))
-            costs = [(customer, micro(next(words))) for customer in range(1, self.customers + 1)]
-            lanes = [(site, customer, cost) for customer, cost in costs if useful.has(site, customer, cost)]
-            if lanes:
-                self.fixed[site] = fixed
-                self.lanes += lanes
+        self.instance, self.of = instance, len(instance.rows) * instance.customers
+        last = [self.last_cost(column) for column in zip(*instance.rows)]
+        self.lanes = [(site, customer, cost) for site, row in enumerate(instance.rows) for customer, cost in enumerate(row)
+                      if cost <= last[customer] and useful.has(site, customer, cost)]
+        self.sites = sorted({site for site, _, _ in self.lanes})
+
+    def last_cost(self, column):
+        """What a customer's lane costs at most in a cheapest plan, by the number of open sites."""
+        return sorted(column)[-min(self.instance.count or 1, len(column))]
 
     def write(self, path):
         """As a file in the LP format of CPLEX, which all these solvers read."""
-        servers = {customer: [] for customer in range(1, self.customers + 1)}
+        fixed, rooms, demands = self.instance.fixed, self.instance.rooms, self.instance.demands
+        servers, served = ({key: [] for key in keys} for keys in (range(self.instance.customers), self.sites))
         for site, customer, _ in self.lanes:
             servers[customer].append(f"x{site}_{customer}")
-        terms = [f"{money(fixed)} y{site}" for site, fixed in self.fixed.items()]
+            served[site].append(customer)
+        terms = [f"{money(fixed[site])} y{site}" for site in self.sites]
         terms += [f"{money(cost)} x{site}_{customer}" for site, customer, cost in self.lanes]
+        rows = [f" s{customer}: {joined(names)} = 1" for customer, names in servers.items()]
+        rows += [f" o{site}_{customer}: x{site}_{customer} - y{site} <= 0" for site, customer, _ in self.lanes]
+        if rooms:
+            loads = {site: joined([f"{money(demands[it])} x{site}_{it}" for it in served[site]]) for site in self.sites}
+            rows += [f" r{site}: {load} - {money(rooms[site])} y{site} <= 0" for site, load in loads.items()]
+        if self.instance.count:
+            rows += [f" count: {joined([f'y{site}' for site in self.sites])} = {self.instance.count}"]
+        units = [f"y{site}" for site in self.sites]
+        units += [f"x{site}_{customer}" for site, customer, _ in self.lanes] if rooms else []
         with open(path, "w") as file:
-            file.write("Minimize\n cost: " + joined(terms) + "\nSubject To\n")
-            for customer, names in servers.items():
-                file.write(f" s{customer}: {joined(names)} = 1\n")
-            for site, customer, _ in self.lanes:
-                file.write(f" o{site}_{customer}: x{site}_{customer} - y{site} <= 0\n")
-            file.write("Bounds\n" + "".join(f" y{site} <= 1\n" for site in self.fixed))
-            file.write("Generals\n" + "".join(f" y{site}\n" for site in self.fixed) + "End\n")
+            file.write("Minimize\n cost: " + joined(terms) + "\nSubject To\n" + "\n".join(rows) + "\nBounds\n")
+            file.write("".join(f" {unit} <= 1\n" for unit in units))
+            file.write("Generals\n" + "".join(f" {unit}\n" for unit in units) + "End\n")
 
 
 def joined(terms):
@@ -144,21 +217,30 @@ def highs(model, limit):
     import numpy
     from scipy import optimize, sparse
 
-    places = {site: place for place, site in enumerate(model.fixed)}
-    sites, lanes = len(places), len(model.lanes)
-    costs = [*model.fixed.values(), *(cost for _, _, cost in model.lanes)]
+    instance, lanes = model.instance, len(model.lanes)
+    places, sites = {site: place for place, site in enumerate(model.sites)}, len(model.sites)
+    costs = [*(instance.fixed[site] for site in model.sites), *(cost for _, _, cost in model.lanes)]
     columns = numpy.arange(sites, sites + lanes)
-    customers = [customer - 1 for _, customer, _ in model.lanes]
-    served = sparse.csr_array((numpy.ones(lanes), (customers, columns)), shape=(model.customers, sites + lanes))
-    opened = [places[site] for site, _, _ in model.lanes]
-    entries = numpy.concatenate([numpy.ones(lanes), -numpy.ones(lanes)])
-    rows = numpy.concatenate([numpy.arange(lanes)] * 2)
-    used = sparse.csr_array((entries, (rows, numpy.concatenate([columns, opened]))), shape=(lanes, sites + lanes))
+    customers, opened = [customer for _, customer, _ in model.lanes], [places[site] for site, _, _ in model.lanes]
+
+    def matrix(entries, rows, columns, height):
+        return sparse.csr_array((entries, (rows, columns)), shape=(height, sites + lanes))
+
+    served = matrix(numpy.ones(lanes), customers, columns, instance.customers)
+    pairs = numpy.concatenate([numpy.ones(lanes), -numpy.ones(lanes)])
+    used = matrix(pairs, numpy.concatenate([numpy.arange(lanes)] * 2), numpy.concatenate([columns, opened]), lanes)
     limits = [optimize.LinearConstraint(served, 1, 1), optimize.LinearConstraint(used, -numpy.inf, 0)]
-    whole = numpy.concatenate([numpy.ones(sites), numpy.zeros(lanes)])
+    if instance.rooms:
+        loads = [instance.demands[it] / MICRO for it in customers] + [-instance.rooms[it] / MICRO for it in model.sites]
+        load = matrix(loads, [*opened, *range(sites)], [*columns, *range(sites)], sites)
+        limits.append(optimize.LinearConstraint(load, -numpy.inf, 0))
+    if instance.count:
+        count = matrix(numpy.ones(sites), numpy.zeros(sites, int), numpy.arange(sites), 1)
+        limits.append(optimize.LinearConstraint(count, instance.count, instance.count))
+    whole_ones = numpy.concatenate([numpy.ones(sites), numpy.full(lanes, 1 if instance.rooms else 0)])
     how = {"time_limit": limit, "mip_rel_gap": 0}
     start = time.process_time()
-    answer = optimize.milp([it / MICRO for it in costs], integrality=whole, bounds=optimize.Bounds(0, 1),
+    answer = optimize.milp([it / MICRO for it in costs], integrality=whole_ones, bounds=optimize.Bounds(0, 1),
                            constraints=limits, options=how)
     return time.process_time() - start, answer.fun if answer.status == 0 else None
 
@@ -179,7 +261,7 @@ def main():
     words.add_argument("cost", nargs="?")
     options = words.parse_args()
     known = micro(options.cost) if options.cost else None
-    model = Model(options.instance, Useful(options.program, options.instance, options.cost, options.limit))
+    model = Model(read(options.instance), Useful(options.program, options.instance, options.cost, options.limit))
     said, missing = [], []
     with tempfile.TemporaryDirectory() as folder:
         model.write(f"{folder}/model.lp")

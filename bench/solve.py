@@ -1,15 +1,19 @@
 """Solves a folder's instances with a built program, and compares with a table: `solve.py PROGRAM FOLDER TABLE [NAME ..]`.
 
-The instances are the files `*.ufl` of the folder, in the UflLib simple format, and `*.uncap`, warehouse files whose
-capacities don't count; other files are passed over. The table
-has a line for each instance, of columns parted by tabs that its first line names. Those that are used are `instance`,
-the file's name, and, each of which may be empty, `optimum`, `reference_seconds` and `reference_nodes`.
+The instances are the files `*.ufl` of the folder, in the UflLib simple format, `*.cap` and `*.uncap`, warehouse files
+with their capacities and without, and `*.pmed`, networks; other files are passed over.
+
+The table has a line for each instance, of columns parted by tabs that its first line names. Those that are used are
+`instance`, the file's name, and, each of which may be missing or empty, `optimum`, `reference_seconds`, `reference_nodes`
+and `budget`, the nodes that the search is given. Without that last one a search under capacities is given 80,000, and any
+other what the program takes by itself; `--budget` goes before both.
 
 For each instance `dualoc solve FORM` writes a plan and a certificate, and `dualoc check FORM` has to say yes to what was
 printed. A line says
 
     cost          yes: it is the table's; new: it is optimal, and the table has none; open: a bracket about the table's
-                  cost, with its width; WRONG: the table's cost is another, or outside of the bracket
+                  cost, with its width, or without a plan; none: there is no plan, and the table has no cost; WRONG: the
+                  table's cost is another, or outside of the bracket
     seconds       processor seconds, for itself and for the system, with reading and writing; the best of three runs
                   where one takes less than a second. Behind them those of the table
     nodes         of the tree, and those of the table
@@ -30,8 +34,11 @@ import tempfile
 from timing import Run
 
 MICRO = 10**6
-FORMS = ("ufl", "uncap")
-OPTIMAL, BRACKET = 0, 2
+FORMS = ("ufl", "uncap", "cap", "pmed")
+BUDGETS = {"cap": 80000}
+OPTIMAL, INFEASIBLE, BRACKET = ANSWERS = 0, 1, 2
+# The cost of no plan.
+NO_PLAN = float("inf")
 # A run below so many seconds is repeated, so often in all.
 SHORT, TIMES = 1, 3
 # What is allowed: so many times the seconds of the table, or so many seconds.
@@ -56,21 +63,22 @@ def form_of(name):
 class Answer:
     """What the program and its checker say of an instance."""
 
-    def __init__(self, options, instance, folder):
+    def __init__(self, options, instance, budget, folder):
         files = [instance, os.path.join(folder, "plan"), os.path.join(folder, "certificate")]
         form = form_of(instance)
         words = [options.program, "solve", form, *files]
-        words += [f"budget={options.budget}"] if options.budget is not None else []
+        words += [f"budget={budget}"] if budget is not None else []
         runs = [Run(words, options.limit)]
         while len(runs) < TIMES and runs[0].seconds < SHORT:
             runs.append(Run(words, options.limit))
         self.run = min(runs, key=lambda run: run.seconds)
         self.claim = self.run.said.partition(" nodes ")[0]
-        self.is_answer = self.run.status in (OPTIMAL, BRACKET)
+        self.is_answer = self.run.status in ANSWERS
         self.nodes = self.ends = self.size = self.check = None
         if self.is_answer:
             self.nodes = int(self.run.said.split(" nodes ")[1].split()[0])
-            self.ends = [micro(word) for word in self.claim.split()[1:]]
+            ends = [micro(word) if word != "none" else NO_PLAN for word in self.claim.split()[1:]]
+            self.ends = ends or [NO_PLAN]
             self.size = os.path.getsize(files[2])
             self.check = Run([options.program, "check", form, instance, files[2]], options.limit)
 
@@ -84,8 +92,10 @@ class Answer:
         low, high = self.ends[0], self.ends[-1]
         if optimum and not low <= micro(optimum) <= high:
             return "WRONG"
+        if self.run.status == INFEASIBLE:
+            return "none"
         if self.run.status == BRACKET:
-            return f"open {(high - low) / max(high, 1):.4%}"
+            return f"open {(high - low) / max(high, 1):.4%}" if high < NO_PLAN else "open none"
         return "yes" if optimum else "new"
 
     def row(self, name, known):
@@ -97,6 +107,11 @@ class Answer:
         times = [f"{self.run.seconds:.3f}", known.get("reference_seconds") or "-"]
         nodes = [self.nodes, known.get("reference_nodes") or "-"]
         return costs + times + nodes + [f"{self.run.memory / 1e6:.1f}", self.size, check]
+
+
+def budget_of(options, name, known):
+    """The nodes that the search is given, where they are given."""
+    return options.budget if options.budget is not None else known.get("budget") or BUDGETS.get(form_of(name))
 
 
 def is_slow(answer, known):
@@ -119,11 +134,9 @@ def instances(options, table):
 
 
 def peers(options, instance, answer):
-    """Prints what other solvers take, on the lanes that can matter where a plan is at hand, for the form `ufl` alone."""
-    if form_of(instance) != "ufl":
-        return
+    """Prints what other solvers take, on the lanes that can matter where a plan is at hand."""
     words = [sys.executable, os.path.join(os.path.dirname(os.path.abspath(__file__)), "peers.py")]
-    cost = [answer.claim.split()[-1]] if answer.is_answer else []
+    cost = [answer.claim.split()[-1]] if answer.is_answer and answer.ends[-1] < NO_PLAN else []
     subprocess.run([*words, "--limit", str(options.limit), options.program, instance, *cost], check=False)
 
 
@@ -151,7 +164,7 @@ def main():
     with tempfile.TemporaryDirectory() as folder:
         for name in names:
             instance, known = os.path.abspath(os.path.join(options.folder, name)), table.get(name, {})
-            answer = Answer(options, instance, folder)
+            answer = Answer(options, instance, budget_of(options, name, known), folder)
             line = shown(answer.row(name, known))
             print(line, flush=True)
             slow += [line] if is_slow(answer, known) else []

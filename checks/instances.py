@@ -17,6 +17,8 @@ MAX_AMOUNT = 10**15 - 1
 MAX_BYTES = 2**28
 AMOUNT = re.compile(rb"\+?(?=\.?[0-9])([0-9]*)(?:\.([0-9]*))?\Z")
 DONE, BAD_INPUT, TOO_LARGE = 0, 5, 8
+# What the least plan costs where there is none.
+NO_PLAN = float("inf")
 
 
 class Fault(Exception):
@@ -103,14 +105,17 @@ def least_cost(fixed, lanes):
                for size in range(1, len(fixed) + 1) for opened in itertools.combinations(sites, size))
 
 
-def cost_of_plan(said, fixed, lanes):
-    """What the plan of a plan text costs, whose claim isn't looked at; nothing where it isn't a feasible plan's text."""
+def cost_of_plan(said, fixed, lanes, fits=lambda opened, serve: True):
+    """What the plan of a plan text costs, whose claim isn't looked at; nothing where it isn't a feasible plan's text. The
+    plan has to fit by its open sites and by the customers' sites, and a lane that is missing costs `None`."""
     opened = [int(it) for it in re.findall(r"(?m)^site ([0-9]+) ", said)]
     serve = [int(it) for it in re.findall(r"(?m)^serve [0-9]+ ([0-9]+) ", said)]
     rises = all(a < b for a, b in zip([0, *opened], [*opened, len(fixed) + 1]))
-    if not rises or len(serve) != len(lanes[0]) or not {*serve} <= {*opened}:
+    if not rises or len(serve) != len(lanes[0]) or not {*serve} <= {*opened} or not fits(opened, serve):
         return None
     costs = [lanes[site - 1][j] for j, site in enumerate(serve)]
+    if None in costs:
+        return None
     due = ["dualoc-plan 1", said.splitlines()[1], *[f"site {site} {money(fixed[site - 1])}" for site in opened],
            *[f"serve {j} {site} {money(cost)}" for j, (site, cost) in enumerate(zip(serve, costs), 1)], "end", ""]
     return sum(fixed[site - 1] for site in opened) + sum(costs) if said == "\n".join(due) else None

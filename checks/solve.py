@@ -17,14 +17,15 @@ import re
 import sys
 
 from common import MICRO, main, money
-from instances import DONE, MAX_AMOUNT, cost_of_plan, words_of
+from instances import DONE, MAX_AMOUNT, NO_PLAN, cost_of_plan, words_of
 
 FILES = 2000
 MOST_DUALS, USUAL_BUDGET = 20_000_000, 20_000
-BRACKET, USAGE, BAD_INPUT, READ_FAULT, WRITE_FAULT, TOO_LARGE = 2, 4, 5, 6, 7, 8
+INFEASIBLE, BRACKET, USAGE, BAD_INPUT, READ_FAULT, WRITE_FAULT, TOO_LARGE = 1, 2, 4, 5, 6, 7, 8
 COST = r"([0-9]+\.[0-9]{6})"
 OPTIMAL_LINE = re.compile(rf"optimal {COST} nodes ([0-9]+)\n\Z")
-BRACKET_LINE = re.compile(rf"bracket {COST} {COST} nodes ([0-9]+) budget ([0-9]+)\n\Z")
+INFEASIBLE_LINE = re.compile(r"infeasible nodes ([0-9]+)\n\Z")
+BRACKET_LINE = re.compile(rf"bracket {COST} (?:{COST}|none) nodes ([0-9]+) budget ([0-9]+)\n\Z")
 NODE = re.compile(rb"(?m)^(?:site|lane|leaf) ")
 PLAN, CERTIFICATE = "plan", "certificate"
 # What stands in both files before: mostly longer than what comes.
@@ -32,26 +33,32 @@ BEFORE = b"before\n" * 1000
 
 
 class Task:
-    """An instance in a file, by its name; what is shown of it where the check stops; its costs, where they are known."""
+    """An instance in a file, by its form and name and the words of its options; what is shown of it where the check stops;
+    its least cost, which is `NO_PLAN` where it has none; and what a plan's text costs, where that can be told."""
 
-    def __init__(self, name, shown, optimum, sizes, fixed=None, lanes=None):
-        self.name, self.shown, self.optimum, self.fixed, self.lanes = name, shown, optimum, fixed, lanes
+    def __init__(self, form, name, shown, optimum, sizes, cost_of=None, options=()):
+        self.form, self.name, self.shown, self.optimum = form, name, shown, optimum
+        self.cost_of, self.options = cost_of, options
         self.usual = min(USUAL_BUDGET, MOST_DUALS // sum(sizes))
 
     def wrong(self, budget, why):
-        sys.exit(f"check: {self.shown!r} with the budget {budget}: {why}")
+        sys.exit(f"check: {self.shown!r} as {self.form} with {self.options} and the budget {budget}: {why}")
 
 
 def micro(word):
-    return int(word.replace(".", ""))
+    """A cost in millionths; no word is no plan's."""
+    return NO_PLAN if word is None else int(word.replace(".", ""))
 
 
 def ends_of(task, budget, said, status):
-    """The claim that is printed, its ends and the nodes, where they are in order."""
-    optimal, bracket = OPTIMAL_LINE.match(said), BRACKET_LINE.match(said)
+    """The claim that is printed, its upper end and the nodes, where they are in order."""
+    optimal, infeasible, bracket = (it.match(said) for it in (OPTIMAL_LINE, INFEASIBLE_LINE, BRACKET_LINE))
     if optimal and status == DONE:
         low = high = micro(optimal[1])
         nodes = int(optimal[2])
+    elif infeasible and status == INFEASIBLE:
+        low = high = NO_PLAN
+        nodes = int(infeasible[1])
     elif bracket and status == BRACKET:
         low, high, nodes = micro(bracket[1]), micro(bracket[2]), int(bracket[3])
         if low >= high or int(bracket[4]) != budget or nodes + 1 <= budget:
@@ -59,7 +66,7 @@ def ends_of(task, budget, said, status):
     else:
         task.wrong(budget, f"{said!r} with {status} is no answer")
     if not low <= task.optimum <= high:
-        task.wrong(budget, f"{said!r}, and the least cost is {money(task.optimum)}")
+        task.wrong(budget, f"{said!r}, and the least cost in millionths is {task.optimum}")
     if nodes % 2 == 0 or nodes - 1 > budget:
         task.wrong(budget, f"so many nodes can't be: {said!r}")
     return said.partition(" nodes ")[0], high, nodes
@@ -67,22 +74,24 @@ def ends_of(task, budget, said, status):
 
 def solve(program, task, budget=None):
     """Has the instance searched, judges all that comes of it, and returns the number of nodes."""
-    words = [] if budget is None else [f"budget={budget}"]
+    words = [*task.options, *([] if budget is None else [f"budget={budget}"])]
+    random.shuffle(words)
     program.write(PLAN, BEFORE)
     program.write(CERTIFICATE, BEFORE)
-    said, status = program.ask("solve", "ufl", task.name, PLAN, CERTIFICATE, *words)
+    said, status = program.ask("solve", task.form, task.name, PLAN, CERTIFICATE, *words)
     claim, high, nodes = ends_of(task, task.usual if budget is None else budget, said, status)
     with open(program.at(PLAN)) as file:
         plan = file.read()
     if plan.splitlines()[1:2] != [claim]:
         task.wrong(budget, f"{said!r} is printed, and not what the plan's file says")
-    if task.fixed and cost_of_plan(plan, task.fixed, task.lanes) != high:
+    if task.cost_of and task.cost_of(plan) != high:
         task.wrong(budget, f"{said!r} is printed, and the plan is another: {plan!r}")
     with open(program.at(CERTIFICATE), "rb") as file:
         found = len(NODE.findall(file.read()))
     if found != nodes:
         task.wrong(budget, f"{said!r} is printed, and the certificate has {found} nodes")
-    program.expect(f"yes {claim}\n", DONE, (task.shown, budget), "check", "ufl", task.name, CERTIFICATE)
+    checked = ("check", task.form, task.name, CERTIFICATE, *task.options)
+    program.expect(f"yes {claim}\n", DONE, (task.shown, budget), *checked)
     return nodes
 
 
@@ -99,9 +108,13 @@ def scattered(m, n):
     return [factor * fixed() for _ in range(m)], [[lane() for _ in range(n)] for _ in range(m)]
 
 
+def greatest():
+    """A random amount, mostly one of the greatest that there are."""
+    return MAX_AMOUNT - random.choice([0, 1, random.randrange(10**6), random.randrange(MAX_AMOUNT)])
+
+
 def large(m, n):
-    amount = lambda: MAX_AMOUNT - random.choice([0, 1, random.randrange(10**6), random.randrange(MAX_AMOUNT)])
-    return [amount() for _ in range(m)], [[amount() for _ in range(n)] for _ in range(m)]
+    return [greatest() for _ in range(m)], [[greatest() for _ in range(n)] for _ in range(m)]
 
 
 def cover(m, n):
@@ -125,7 +138,7 @@ def walked(program, text, fixed, lanes):
     program.write("sites", text)
     said, status = program.ask("solve", "ufl", "sites")
     optimum = cost_of_plan(said, fixed, lanes)
-    task = Task("sites", text, optimum, (len(fixed), len(lanes[0])), fixed, lanes)
+    task = Task("ufl", "sites", text, optimum, (len(fixed), len(lanes[0])), lambda it: cost_of_plan(it, fixed, lanes))
     if status != DONE or optimum is None or said.splitlines()[1] != f"optimal {money(optimum)}":
         task.wrong(None, f"the walk says {said!r} with {status}")
     return task
@@ -162,20 +175,25 @@ REFUSED += [("bad input NotANumber line 2 word 2\n", BAD_INPUT, ("fault", PLAN, 
             ("write fault\n", WRITE_FAULT, ("sites", "nowhere/plan", CERTIFICATE))]
 
 
+def refuse(program, due, status, *words):
+    """Stops where a search isn't refused as is due, or changes a file."""
+    for name in (PLAN, CERTIFICATE):
+        program.write(name, BEFORE)
+    program.expect(due, status, words, "solve", *words)
+    for name in (PLAN, CERTIFICATE):
+        with open(program.at(name), "rb") as file:
+            if file.read() != BEFORE:
+                sys.exit(f"check: {words!r} is refused, and the file {name} changed")
+
+
 def refused(program):
     """Words, budgets and files at fault."""
     program.write("sites", SITES)
     program.write("fault", SITES.replace(b"10", b"ten"))
     for due, status, words in REFUSED:
-        for name in (PLAN, CERTIFICATE):
-            program.write(name, BEFORE)
-        program.expect(due, status, words, "solve", "ufl", *words)
-        for name in (PLAN, CERTIFICATE):
-            with open(program.at(name), "rb") as file:
-                if file.read() != BEFORE:
-                    sys.exit(f"check: {words!r} is refused, and the file {name} changed")
+        refuse(program, due, status, "ufl", *words)
     program.expect("write fault\n", WRITE_FAULT, "no folder", "solve", "ufl", "sites", PLAN, "nowhere/certificate")
-    task = Task("sites", SITES, 22 * MICRO, (2, 3))
+    task = Task("ufl", "sites", SITES, 22 * MICRO, (2, 3))
     for budget in (0, 1, GREATEST):
         solve(program, task, budget)
     return f"{len(REFUSED) + 1} refusals"
@@ -190,7 +208,7 @@ def told(program, folder):
         path = os.path.abspath(os.path.join(folder, name))
         with open(path, "rb") as file:
             words = words_of(file.read(1000))[0]
-        task = Task(path, name, micro(optima[name]), [int(words[place][2]) for place in (0, 1)])
+        task = Task("ufl", path, name, micro(optima[name]), [int(words[place][2]) for place in (0, 1)])
         for budget in (None, 0, 5):
             solve(program, task, budget)
     return f"{len(names)} instances of {folder} at the cost of its table"
