@@ -1,6 +1,6 @@
 -- The place behind the last word.
 use Rattle.std.proofs.Common.{◌≡◌, ◌+◌, List, [], ◌∷◌, refl}
-use Rattle.fixed_cost.specs.Words.{PlacedWord, end_of}
+use Rattle.number_words.specs.Words.{PlacedWord, end_of}
 use Rattle.fixed_cost.specs.Reading.{end_after}
 
 -- behind a word the place before it doesn't count

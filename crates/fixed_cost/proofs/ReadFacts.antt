@@ -5,7 +5,7 @@ use Rattle.std.proofs.lemmas.Bool.Decides.{nat_tests}
 use Rattle.std.proofs.lemmas.List.Elements.{All-nil, All-cons}
 use Rattle.std.specs.Prelude.{All, if◌then◌else◌}
 use Rattle.location_terms.specs.declared.limits.TheConstants.{MAX_AMOUNT}
-use Rattle.fixed_cost.specs.Words.{PlacedWord}
+use Rattle.number_words.specs.Words.{PlacedWord}
 use Rattle.fixed_cost.specs.Amount.{amount_of, is_numeral, is_in_millionths, millionths}
 use Rattle.fixed_cost.specs.declared.amount.AmountFault.{AmountFault}
 use Rattle.fixed_cost.specs.declared.amount.AmountFault.TheVariants.{NotANumber, TooFine, TooBig}

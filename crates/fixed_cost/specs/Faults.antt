@@ -1,6 +1,6 @@
 -- The names of faults, and the place of a text's end.
 use Rattle.std.specs.Prelude.{ℕ, List, ◌++◌, codes, decimal}
-use Rattle.fixed_cost.specs.Words.{PlacedWord, end_of}
+use Rattle.number_words.specs.Words.{PlacedWord, end_of}
 use Rattle.fixed_cost.specs.declared.amount.AmountFault.{AmountFault}
 use Rattle.fixed_cost.specs.declared.amount.AmountFault.TheVariants as amount
 use Rattle.fixed_cost.specs.declared.fault.FileKind.{FileKind}

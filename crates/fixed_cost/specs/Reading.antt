@@ -2,7 +2,7 @@
 use Rattle.std.specs.Prelude.{◌≡◌, ◌==◌, ℕ, zero, suc, ◌+◌, ◌/◌, ◌%◌, Bool, ◌&&◌, List, [], ◌∷◌, Result, Ok, Err, nat_eq, nat_le, if◌then◌else◌}
 use Rattle.std.specs.List.{starts_with}
 use Rattle.fixed_cost.specs.Amount.{amount_of}
-use Rattle.fixed_cost.specs.Words.{PlacedWord, end_of}
+use Rattle.number_words.specs.Words.{PlacedWord, end_of}
 use Rattle.fixed_cost.specs.Faults.{kind_of, fault_at}
 use Rattle.fixed_cost.specs.declared.amount.AmountFault.{AmountFault}
 use Rattle.fixed_cost.specs.declared.fault.FileKind.{FileKind}

@@ -1,11 +1,15 @@
 //! Amounts and counts, and the words that spell them.
 
-ghost use Rattle.std.specs.Prelude.{◌≡◌, ◌/◌, ◌%◌, ◌≤◌};
+ghost use Rattle.std.specs.Prelude.{◌≡◌, ◌==◌, ◌^◌, ◌/◌, ◌%◌, ◌≤◌, ◌++◌, true, min, drop};
+ghost use Rattle.std.specs.List.{list_all};
 ghost use Rattle.std.specs.Option.{SomeIff};
-ghost use Rattle.fixed_cost.specs.Amount.{amount_of, count_of};
+ghost use Rattle.std.specs.Str.{all_ascii_digits};
+ghost use Rattle.std.specs.Str.Parse.{digits_value, without_leading_plus};
+ghost use Rattle.fixed_cost.specs.Amount.{amount_of, count_of, six_places};
+ghost use Rattle.number_words.specs.Number.{is_digits};
 
-use crate::digits::{capped_value, first_six, is_whole_tail, read_numeral};
 use location_terms::MAX_AMOUNT;
+use number_words::{has_digits_alone, is_digits, parts, push_digits};
 use std::marker::Model;
 use thiserror::Error;
 
@@ -82,27 +86,75 @@ impl Amount {
     pub fn read(word: &[u8]) -> Result<Amount, AmountFault>
         ensures { result ≡ amount_of word.now }
     {
-        let Some(numeral) = read_numeral(word) else {
+        let (whole, decimals) = parts(without_plus(word));
+        if !has_digits(whole, decimals) {
             return Err(AmountFault::NotANumber);
-        };
-        if !is_whole_tail(numeral.decimals) {
+        }
+        if !is_whole_tail(decimals) {
             return Err(AmountFault::TooFine);
         }
-        let micro = first_six(numeral.units, numeral.decimals);
-        Amount::new(micro).ok_or(AmountFault::TooBig)
+        let micro = millionths(whole, decimals);
+        if micro <= u128::from(MAX_AMOUNT) {
+            let micro = micro as u64;
+            Ok(Amount { micro })
+        } else {
+            Err(AmountFault::TooBig)
+        }
     }
+}
+
+/// A word without a leading `+`.
+fn without_plus(word: &[u8]) -> &[u8]
+    ensures { result.now ≡ without_leading_plus word.now }
+{
+    match word {
+        [b'+', rest @ ..] => rest,
+        _ => word,
+    }
+}
+
+/// Whether two parts have one digit or more together, and nothing else.
+fn has_digits(whole: &[u8], decimals: &[u8]) -> bool
+    ensures { result ≡ is_digits (whole.now ++ decimals.now) }
+{
+    if whole.is_empty() {
+        is_digits(decimals)
+    } else {
+        has_digits_alone(whole) && has_digits_alone(decimals)
+    }
+}
+
+/// Whether the digits after the sixth are zeros.
+fn is_whole_tail(decimals: &[u8]) -> bool
+    ensures { result ≡ list_all (λ b. b == 48) (drop 6 decimals.now) }
+{
+    decimals.iter().skip(6).all(|b| *b == b'0')
+}
+
+/// The value of digits and the first six decimals behind them, with zeros for those that aren't there,
+/// or 10^30 past it.
+fn millionths(whole: &[u8], decimals: &[u8]) -> u128
+    requires whole { all_ascii_digits whole.now ≡ true }
+    requires decimals { all_ascii_digits decimals.now ≡ true }
+    ensures { result ≡ min (digits_value 10 (whole.now ++ six_places decimals.now)) (10 ^ 30) }
+{
+    let zeros = b"000000";
+    let len = decimals.len().min(6);
+    let units = push_digits(0, whole);
+    push_digits(push_digits(units, &decimals[..len]), &zeros[len..])
 }
 
 /// The count that a word spells: one or more digits alone, at most 4,294,967,295.
 pub fn read_count(word: &[u8]) -> Result<u32, AmountFault>
     ensures { result ≡ count_of word.now }
 {
-    if word.is_empty() {
+    if !is_digits(word) {
         return Err(AmountFault::NotANumber);
     }
-    match capped_value(word) {
-        None => Err(AmountFault::NotANumber),
-        Some(value) if value <= u64::from(u32::MAX) => Ok(value as u32),
-        Some(_) => Err(AmountFault::TooBig),
+    let value = push_digits(0, word);
+    if value <= u128::from(u32::MAX) {
+        Ok(value as u32)
+    } else {
+        Err(AmountFault::TooBig)
     }
 }

@@ -2,13 +2,12 @@
 
 ghost use Rattle.std.specs.Prelude.{◌≡◌, ◌≤◌, length, Some};
 ghost use Rattle.fixed_cost.specs.Faults.{kind_name, kind_of, fault_at, ended_fault, fault_text};
-ghost use Rattle.fixed_cost.specs.Words.{placed, words_of};
+ghost use Rattle.number_words.specs.Words.{placed, words_of};
 ghost use Rattle.fixed_cost.specs.declared.fault.FormFault.TheVariants.{File, NoMemory};
 
 use crate::amount::AmountFault;
 use crate::limits::MAX_INSTANCE_BYTES;
-use crate::scan::Words;
-use crate::word::Word;
+use number_words::{Word, Words};
 use std::alloc::{AllocError, AllocFailed};
 use std::fmt;
 use thiserror::Error;

@@ -2,7 +2,7 @@
 
 ghost use Rattle.std.specs.Prelude.{◌≡◌, ◌+◌, ◌/◌, ◌%◌, ◌≤◌, ◌<◌, ◌^◌, length, take, Ok};
 ghost use Rattle.fixed_cost.specs.Amount.{amount_of};
-ghost use Rattle.fixed_cost.specs.Print.{micro_text, decimals_text};
+ghost use Rattle.number_words.specs.Cost.{micro_text, decimals_text};
 
 use itoa::Buffer;
 use location_terms::MAX_AMOUNT;

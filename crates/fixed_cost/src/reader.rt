@@ -2,14 +2,13 @@
 
 ghost use Rattle.std.specs.Prelude.{◌≡◌, ◌==◌, ◌≤◌, length, option_map, slice_get, IfOk};
 ghost use Rattle.fixed_cost.specs.Amount.{amount_of};
-ghost use Rattle.fixed_cost.specs.Words.{placed, words_of};
+ghost use Rattle.number_words.specs.Words.{placed, words_of};
 ghost use Rattle.fixed_cost.specs.Reading.{all_of, word_at, in_word, amount_at, size_at, size_in, is_within, finished, behind, untitled, Reads};
 
 use crate::amount::Amount;
 use crate::fault::{FileFault, FileKind};
 use crate::limits::MAX_INSTANCE_BYTES;
-use crate::scan::Words;
-use crate::word::Word;
+use number_words::{Word, Words};
 use std::marker::Model;
 
 /// Reads the words of a text in order. It is seen as the words that are left and the place of the

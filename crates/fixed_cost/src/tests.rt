@@ -96,29 +96,6 @@ fn prints_amounts(rt: HostRuntime) {
 }
 
 #[test]
-fn finds_words_with_their_places(rt: HostRuntime) {
-    let text = "FILE: a\r\n\n\t2 3  0\r\n 1 \x0b\x00x\n\nlast";
-    let want = [
-        ("FILE:", 1, 1),
-        ("a", 1, 2),
-        ("2", 3, 1),
-        ("3", 3, 2),
-        ("0", 3, 3),
-        ("1", 4, 1),
-        ("\x0b\x00x", 4, 2),
-        ("last", 6, 1),
-    ];
-    let mut words = Words::new(text.as_bytes());
-    for (text, line, place) in want {
-        let word = words.next().expect(&rt, "a word");
-        assert_eq!(rt; word.text, text.as_bytes());
-        assert_eq!(rt; (word.line, word.place), (line, place), "{text}");
-    }
-    assert!(rt; words.next().is_none());
-    assert!(rt; words.next().is_none());
-}
-
-#[test]
 fn tells_faults_with_their_places(rt: HostRuntime) -> Result<(), Fail> {
     let rows = [
         ("", 1, 1),

@@ -1,7 +1,8 @@
 -- The digits of a natural number of any size, and what digits are worth.
-use Rattle.std.proofs.Common.{◌≡◌, ℕ, zero, suc, ◌+◌, ◌*◌, ◌/◌, ◌%◌, ◌<◌, ◌≤◌, ◌^◌, true, false, ◌||◌, not, ◌==◌, List, [], ◌∷◌, ◌++◌, map, length, get_or, length-append, pow-suc, sym, refl, ap, ◌∙◌, subst, arith, inl, inr}
+use Rattle.std.proofs.Common.{◌≡◌, ℕ, zero, suc, ◌+◌, ◌*◌, ◌/◌, ◌%◌, ◌<◌, ◌≤◌, ◌^◌, true, false, ◌&&◌, ◌||◌, not, ◌==◌, List, [], ◌∷◌, ◌++◌, map, length, get_or, length-append, pow-suc, sym, refl, ap, ◌∙◌, subst, arith, inl, inr}
 use Rattle.std.specs.Prelude.{decimal}
 use Rattle.std.specs.Int.Digits.{digits_of}
+use Rattle.std.specs.List.{list_all}
 use Rattle.std.specs.Str.{all_ascii_digits}
 use Rattle.std.specs.Str.Parse.{digits_value, digits_value_after}
 use Rattle.std.specs.Char.{is_ascii_digit, digit_value}
@@ -10,6 +11,7 @@ use Rattle.std.proofs.lemmas.Bool.Decides.{nat_tests}
 use Rattle.std.proofs.lemmas.Fmt.{decimal_by_steps_wide}
 use Rattle.std.proofs.lemmas.Int.Digits.{digits_of_step, digits_value_push}
 use Rattle.std.proofs.lemmas.List.{append-nil, append_assoc, map_push, get_or_append_left}
+use Rattle.std.proofs.lemmas.List.Folds.{list_all-append}
 use Rattle.std.proofs.lemmas.Str.Parse.{numerals_by_value, tells_all_ascii_digits, digits_value_short}
 use Rattle.number_words.specs.Number.{is_digits, is_plain_digits, digits_text}
 
@@ -24,12 +26,19 @@ digit_value-text d low = grind (arith, nat_tests)
 pub digit_value-of : (c : ℕ) → is_ascii_digit c ≡ true → (48 ≤ c) × (c ≤ 57) × (digit_value c + 48 ≡ c)
 digit_value-of c digit = (grind (arith, nat_tests), grind (arith, nat_tests), grind (arith, nat_tests))
 
+-- the test of each byte is the test of digits
+pub list_all-digits : (ds : List ℕ) → list_all is_ascii_digit ds ≡ all_ascii_digits ds
+list_all-digits [] = refl
+list_all-digits (c ∷ cs) = ap (λ b. is_ascii_digit c && b) (list_all-digits cs)
+
 -- whether both parts are digits alone
-pub all_ascii_digits-append : (xs ys : List ℕ) → all_ascii_digits xs ≡ true → all_ascii_digits ys ≡ true → all_ascii_digits (xs ++ ys) ≡ true
-all_ascii_digits-append [] ys a b = b
-all_ascii_digits-append (x ∷ xs) ys a b =
-    let both = and_parts (is_ascii_digit x) (all_ascii_digits xs) a in
-    and_from _ _ both.0 (all_ascii_digits-append xs ys both.1 b)
+pub all_ascii_digits-append : (xs ys : List ℕ) → all_ascii_digits (xs ++ ys) ≡ all_ascii_digits xs && all_ascii_digits ys
+all_ascii_digits-append xs ys =
+    sym (list_all-digits (xs ++ ys)) ∙ list_all-append is_ascii_digit xs ys
+    ∙ ap (λ b. b && list_all is_ascii_digit ys) (list_all-digits xs) ∙ ap (λ b. all_ascii_digits xs && b) (list_all-digits ys)
+
+pub digits_append : (xs ys : List ℕ) → all_ascii_digits xs ≡ true → all_ascii_digits ys ≡ true → all_ascii_digits (xs ++ ys) ≡ true
+digits_append xs ys a b = all_ascii_digits-append xs ys ∙ and_from _ _ a b
 
 -- a number below ten is one digit
 digits_of-digit : (n : ℕ) → 0 < n → n < 10 → digits_of 10 n ≡ n ∷ []
@@ -90,7 +99,7 @@ spells_one n low = record {
 
 spells_more : (n : ℕ) (ds : List ℕ) → 10 ≤ n → Spells (n / 10) ds → Spells n (ds ++ ((48 + n % 10) ∷ []))
 spells_more n ds high front = record {
-  digits = all_ascii_digits-append ds _ front.digits (and_from _ _ (is_ascii_digit-text (n % 10) (omega arith)) refl);
+  digits = digits_append ds _ front.digits (and_from _ _ (is_ascii_digit-text (n % 10) (omega arith)) refl);
   value = digits_value_push 10 ds (48 + n % 10) ∙ omega (arith, front.value, digit_value-text (n % 10) (omega arith));
   nonempty = omega (arith, length-append ds ((48 + n % 10) ∷ []));
   leads = λ some. omega (arith, front.leads (omega arith), get_or_append_left ds ((48 + n % 10) ∷ []) 0 0 front.nonempty);
@@ -127,6 +136,11 @@ digits_text-digits_value (c ∷ e ∷ cs) digits some leads =
     let same : 48 + (0 * 10 + digit_value c) ≡ c = omega arith in
     digits_text-after (0 * 10 + digit_value c) (e ∷ cs) (omega arith) both.1
     ∙ ap (λ xs. xs ++ (e ∷ cs)) (digits_text-digit (0 * 10 + digit_value c) (omega arith) ∙ ap (λ x. x ∷ []) same)
+
+-- digits behind digits
+pub digits_value_after-append : (xs ys : List ℕ) (n : ℕ) → digits_value_after 10 n (xs ++ ys) ≡ digits_value_after 10 (digits_value_after 10 n xs) ys
+digits_value_after-append [] ys n = refl
+digits_value_after-append (x ∷ xs) ys n = digits_value_after-append xs ys (n * 10 + digit_value x)
 
 weight_more : (n d p w whole last : ℕ) → whole ≡ (n * 10 + d) * p + w → last ≡ (0 * 10 + d) * p + w → whole ≡ n * (p * 10) + last
 weight_more n d p w whole last a b = omega arith

@@ -3,3 +3,4 @@ pub mod Numbers
 pub mod Costs
 pub mod Lines
 pub mod Values
+pub mod WordSteps

@@ -1,20 +1,21 @@
 -- The words of a line, and its plain form.
 use Rattle.std.proofs.Common.{◌≡◌, ℕ, suc, ◌+◌, ◌<◌, ◌≤◌, Bool, true, false, cond, ◌&&◌, not, ◌==◌, List, [], ◌∷◌, ◌++◌, length, length-append, get_or, take, drop, ◌-◌, ◌⊎◌, sym, refl, ap, ◌∙◌, subst, arith, inl, inr, ◌/◌, ◌%◌}
-use Rattle.std.specs.Prelude.{ℤ, pos, negsuc, filter, decimal}
+use Rattle.std.specs.Prelude.{ℤ, pos, negsuc, filter, All}
 use Rattle.std.specs.Char.{is_ascii_digit}
 use Rattle.std.specs.List.{slice_split, onto_first, list_all, position_or_len, before_first}
 use Rattle.std.specs.Str.{all_ascii_digits}
 use Rattle.std.proofs.lemmas.Bool.{cases_Bool, cases_lt, and_parts, and_from, and_left, and_right, ne_eqb, not-true, not_from_false}
 use Rattle.std.proofs.lemmas.Bool.Decides.{nat_tests, same_from_decides}
 use Rattle.std.proofs.lemmas.List.{append-nil, at_drop_more, at_drop_all, take-append-drop, take_rest, drop_more, drop_all}
+use Rattle.std.proofs.lemmas.List.Folds.{list_all-append}
+use Rattle.std.proofs.lemmas.List.Splits.{slice_split_none, slice_split_at}
+use Rattle.std.proofs.lemmas.List.Sums.{AllPass-from_list_all}
 use Rattle.std.proofs.lemmas.Slice.Eq.{bytes_eq-Decides}
-use Rattle.fixed_cost.specs.Words.{is_blank, runs_of}
-use Rattle.fixed_cost.specs.Print.{micro_text}
-use Rattle.number_words.specs.Line.{words_of_line, is_word, spaced, is_spaced}
+use Rattle.number_words.specs.Line.{is_blank, words_of_line, is_word, spaced, is_spaced}
 use Rattle.number_words.specs.Number.{digits_text, number_text}
-use Rattle.number_words.specs.Cost.{cost_text}
-use Rattle.number_words.proofs.Digits.{spells-digits_text, is_digits-parts, digit_value-of}
-use Rattle.number_words.proofs.Costs.{six, cost_text-is, micro_text-is, all_ascii_digits-six, is_digits-decimal}
+use Rattle.number_words.specs.Cost.{micro_text}
+use Rattle.number_words.proofs.Digits.{spells-digits_text, digit_value-of}
+use Rattle.number_words.proofs.Costs.{six, micro_text-is, all_ascii_digits-six}
 
 -- no byte is a blank
 abbrev pub unbroken : List ℕ → Bool
@@ -37,38 +38,33 @@ is_word-parts w word =
 pub is_word-from : (w : List ℕ) → 0 < length w → unbroken w ≡ true → is_word w ≡ true
 is_word-from w some whole = and_from _ _ (grind (arith, nat_tests)) whole
 
--- a blank in front of a line changes none of its runs
-pub runs_of-blank : (b : ℕ) (l : List ℕ) → is_blank b ≡ true → runs_of (b ∷ l) ≡ runs_of l
-runs_of-blank b l blank = rw blank refl
+-- a blank in front of a line changes none of its words
+pub words_of_line-blank : (b : ℕ) (l : List ℕ) → is_blank b ≡ true → words_of_line (b ∷ l) ≡ words_of_line l
+words_of_line-blank b l blank = rw blank refl
 
--- bytes that are no blanks go to the first part
-slice_split-glue : (run zs l : List ℕ) (ls : List (List ℕ)) → unbroken run ≡ true → slice_split is_blank zs ≡ l ∷ ls → slice_split is_blank (run ++ zs) ≡ (run ++ l) ∷ ls
-slice_split-glue [] zs l ls whole e = e
-slice_split-glue (x ∷ run) zs l ls whole e =
-    let both = and_parts (not (is_blank x)) (unbroken run) whole in
-    rw (not-true (is_blank x) both.0, slice_split-glue run zs l ls both.1 e) refl
+-- a run ends at a blank, or with its line
+no_blanks : (run : List ℕ) → unbroken run ≡ true → All (λ b. is_blank b ≡ false) run
+no_blanks run whole = λ k d inside. not-true _ (AllPass-from_list_all (λ b. not (is_blank b)) run whole k d inside)
 
--- a word is the first of its line
-pub runs_of-word : (w : List ℕ) → is_word w ≡ true → runs_of w ≡ w ∷ []
-runs_of-word w word =
+words_of_line-word : (w : List ℕ) → is_word w ≡ true → words_of_line w ≡ w ∷ []
+words_of_line-word w word =
     let parts = is_word-parts w word in
     let full : length w == 0 ≡ false = grind (arith, nat_tests) in
-    subst (λ xs. runs_of xs ≡ w ∷ []) (append-nil w) (rw (slice_split-glue w [] [] [] parts.1 refl, append-nil w, full) refl)
+    rw (slice_split_none is_blank w (no_blanks w parts.1), full) refl
 
-pub runs_of-word_blank : (w l : List ℕ) (b : ℕ) → is_word w ≡ true → is_blank b ≡ true → runs_of (w ++ b ∷ l) ≡ w ∷ runs_of l
-runs_of-word_blank w l b word blank =
+words_of_line-word_blank : (w l : List ℕ) (b : ℕ) → is_word w ≡ true → is_blank b ≡ true → words_of_line (w ++ b ∷ l) ≡ w ∷ words_of_line l
+words_of_line-word_blank w l b word blank =
     let parts = is_word-parts w word in
     let full : length w == 0 ≡ false = grind (arith, nat_tests) in
-    let split : slice_split is_blank (b ∷ l) ≡ [] ∷ slice_split is_blank l = rw blank refl in
-    rw (slice_split-glue w (b ∷ l) [] (slice_split is_blank l) parts.1 split, append-nil w, full) refl
+    rw (slice_split_at is_blank w b l (no_blanks w parts.1) blank, full) refl
 
 -- the words of a line of spaced words
 pub words_of_line-spaced : (ws : List (List ℕ)) → list_all is_word ws ≡ true → words_of_line (spaced ws) ≡ ws
 words_of_line-spaced [] words = refl
-words_of_line-spaced (w ∷ []) words = runs_of-word w (and_parts (is_word w) true words).0
+words_of_line-spaced (w ∷ []) words = words_of_line-word w (and_parts (is_word w) true words).0
 words_of_line-spaced (w ∷ v ∷ vs) words =
     let both = and_parts (is_word w) (list_all is_word (v ∷ vs)) words in
-    runs_of-word_blank w (spaced (v ∷ vs)) 32 both.0 refl ∙ ap (λ xs. w ∷ xs) (words_of_line-spaced (v ∷ vs) both.1)
+    words_of_line-word_blank w (spaced (v ∷ vs)) 32 both.0 refl ∙ ap (λ xs. w ∷ xs) (words_of_line-spaced (v ∷ vs) both.1)
 
 -- the parts of a line between its blanks, and its words, have no blank
 unbroken-parts : (line : List ℕ) → list_all unbroken (slice_split is_blank line) ≡ true
@@ -216,11 +212,11 @@ is_spaced-blank (b ∷ bs) i past same =
     full ∙ sym (at_drop_all (spaced_from false) (b ∷ bs) i past) ∙ same ∙ sym (is_spaced-spaced_from (b ∷ bs) (omega arith))
 
 -- nothing, or a blank and what follows it
-abbrev StartsBlank : List ℕ → Type 0
+abbrev pub StartsBlank : List ℕ → Type 0
 StartsBlank [] = Unit {0}
 StartsBlank (y ∷ ys) = is_blank y ≡ true
 
-parts_at : (xs : List ℕ) → (unbroken (before_first is_blank xs) ≡ true) × StartsBlank (drop (position_or_len is_blank xs) xs)
+pub parts_at : (xs : List ℕ) → (unbroken (before_first is_blank xs) ≡ true) × StartsBlank (drop (position_or_len is_blank xs) xs)
 parts_at [] = (refl, tt)
 parts_at (x ∷ xs) =
     elim (cases_Bool (is_blank x)) [
@@ -231,29 +227,30 @@ parts_at (x ∷ xs) =
           rw (part, more) (and_from _ _ (not_from_false _ part) rest.0, rest.1)
     ]
 
-runs_of-first : (w rest : List ℕ) → is_word w ≡ true → StartsBlank rest → runs_of (w ++ rest) ≡ w ∷ runs_of rest
-runs_of-first w [] word starts = ap runs_of (append-nil w) ∙ runs_of-word w word
-runs_of-first w (y ∷ ys) word starts = runs_of-word_blank w ys y word starts ∙ ap (λ xs. w ∷ xs) (sym (runs_of-blank y ys starts))
+pub words_of_line-run : (w rest : List ℕ) → is_word w ≡ true → StartsBlank rest → words_of_line (w ++ rest) ≡ w ∷ words_of_line rest
+words_of_line-run w [] word starts = ap words_of_line (append-nil w) ∙ words_of_line-word w word
+words_of_line-run w (y ∷ ys) word starts = words_of_line-word_blank w ys y word starts ∙ ap (λ xs. w ∷ xs) (sym (words_of_line-blank y ys starts))
 
 -- the word at the front is the first of a line
 pub words_of_line-first : (xs : List ℕ) → 0 < length (before_first is_blank xs) → words_of_line xs ≡ before_first is_blank xs ∷ words_of_line (drop (position_or_len is_blank xs) xs)
 words_of_line-first xs some =
     let parts = parts_at xs in
     subst (λ ys. words_of_line ys ≡ before_first is_blank xs ∷ words_of_line (drop (position_or_len is_blank xs) xs)) (take-append-drop (position_or_len is_blank xs) xs)
-    (runs_of-first (before_first is_blank xs) (drop (position_or_len is_blank xs) xs) (is_word-from (before_first is_blank xs) some parts.0) parts.1)
+    (words_of_line-run (before_first is_blank xs) (drop (position_or_len is_blank xs) xs) (is_word-from (before_first is_blank xs) some parts.0) parts.1)
+
+-- a byte that is no blank begins a word
+byte_begins : (b : ℕ) (xs : List ℕ) → is_blank b ≡ false → 0 < length (before_first is_blank (b ∷ xs))
+byte_begins b xs part =
+    let more : 1 + position_or_len is_blank xs ≡ suc (position_or_len is_blank xs) = omega arith in
+    rw (part, more) (omega arith)
 
 -- where no word stands at the front, and no blank, nothing is left
-pub words_of_line-none : (line : List ℕ) (len : ℕ) → (len < length line → is_blank (get_or line len 0) ≡ false) → length (before_first is_blank (drop len line)) ≡ 0 → drop len line ≡ []
-words_of_line-none line len stops none =
+pub nothing_left : (line : List ℕ) (len : ℕ) → (len < length line → is_blank (get_or line len 0) ≡ false) → length (before_first is_blank (drop len line)) ≡ 0 → drop len line ≡ []
+nothing_left line len stops none =
     elim (cases_lt len (length line)) [
-      | inl inside ↦ absurd (omega (arith, word_at (get_or line len 0) (drop (len + 1) line) (stops inside), ap (λ xs. length (before_first is_blank xs)) (drop_more line len 0 inside)))
+      | inl inside ↦ absurd (omega (arith, byte_begins (get_or line len 0) (drop (len + 1) line) (stops inside), ap (λ xs. length (before_first is_blank xs)) (drop_more line len 0 inside)))
       | inr past ↦ drop_all len line past
     ]
-  where
-    word_at : (b : ℕ) (xs : List ℕ) → is_blank b ≡ false → 0 < length (before_first is_blank (b ∷ xs))
-    word_at b xs part =
-        let more : 1 + position_or_len is_blank xs ≡ suc (position_or_len is_blank xs) = omega arith in
-        rw (part, more) (omega arith)
 
 -- what is split off before a blank, and what stands behind it
 pub front-split : (line word : List ℕ) (len p : ℕ) → p ≡ position_or_len is_blank (take (length line - len) (drop len line)) → word ≡ take p (take (length line - len) (drop len line)) → word ≡ before_first is_blank (drop len line)
@@ -272,25 +269,15 @@ unbroken-digits (c ∷ cs) digits =
     let part : is_blank c ≡ false = grind (arith, nat_tests) in
     and_from _ _ (not_from_false _ part) (unbroken-digits cs both.1)
 
-unbroken-append : (xs ys : List ℕ) → unbroken xs ≡ true → unbroken ys ≡ true → unbroken (xs ++ ys) ≡ true
-unbroken-append [] ys a b = b
-unbroken-append (x ∷ xs) ys a b =
-    let both = and_parts (not (is_blank x)) (unbroken xs) a in
-    and_from _ _ both.0 (unbroken-append xs ys both.1 b)
-
 -- printed numbers and costs are words
 pub is_word-number_text : (z : ℤ) → is_word (number_text z) ≡ true
 is_word-number_text (pos n) = let spells = spells-digits_text n in is_word-from (digits_text n) spells.nonempty (unbroken-digits (digits_text n) spells.digits)
 is_word-number_text (negsuc n) = is_word-from (45 ∷ digits_text (suc n)) (omega arith) (and_from _ _ refl (unbroken-digits (digits_text (suc n)) (spells-digits_text (suc n)).digits))
 
--- digits, a point and digits are a word
-point_word : (units ds : List ℕ) → all_ascii_digits units ≡ true → all_ascii_digits ds ≡ true → is_word (units ++ 46 ∷ ds) ≡ true
-point_word units ds whole part =
-    is_word-from (units ++ 46 ∷ ds) (omega (arith, length-append units (46 ∷ ds)))
-    (unbroken-append units (46 ∷ ds) (unbroken-digits units whole) (and_from _ _ refl (unbroken-digits ds part)))
-
-pub is_word-cost_text : (n : ℕ) → is_word (cost_text n) ≡ true
-is_word-cost_text n = ap is_word (cost_text-is n) ∙ point_word (digits_text (n / 1000000)) (six (n % 1000000)) (spells-digits_text (n / 1000000)).digits (all_ascii_digits-six (n % 1000000))
-
 pub is_word-micro_text : (n : ℕ) → is_word (micro_text n) ≡ true
-is_word-micro_text n = ap is_word (micro_text-is n) ∙ point_word (decimal (n / 1000000)) (six (n % 1000000)) (is_digits-parts (decimal (n / 1000000)) (is_digits-decimal (n / 1000000))).1 (all_ascii_digits-six (n % 1000000))
+is_word-micro_text n =
+    let units = spells-digits_text (n / 1000000) in
+    let ds = digits_text (n / 1000000) in
+    let zs = six (n % 1000000) in
+    ap is_word (micro_text-is n) ∙ is_word-from (ds ++ 46 ∷ zs) (omega (arith, length-append ds (46 ∷ zs)))
+    (list_all-append (λ b. not (is_blank b)) ds (46 ∷ zs) ∙ and_from _ _ (unbroken-digits ds units.digits) (and_from _ _ refl (unbroken-digits zs (all_ascii_digits-six (n % 1000000)))))

@@ -156,14 +156,10 @@ above-signs a b none minus less =
 -- the tests of a reader, as these facts
 pub both-negative : (a b x y : List ℕ) (r : Bool) → get_or a 0 0 ≡ 45 → get_or b 0 0 ≡ 45 → x ≡ without_leading_sign a → y ≡ without_leading_sign b → IsTrue r ↔ (digits_value 10 y < digits_value 10 x) → IsTrue r ↔ (number_of a <ℤ number_of b)
 both-negative a b x y r minus_a minus_b is_x is_y told =
-    let order = below-negative a b (eq-eqb _ 45 minus_a) (eq-eqb _ 45 minus_b) in (
-      λ holds. order.0 (subst (λ xs. digits_value 10 (without_leading_sign b) < digits_value 10 xs) is_x (subst (λ ys. digits_value 10 ys < digits_value 10 x) is_y (told.0 holds))),
-      λ less. told.1 (subst (λ xs. digits_value 10 y < digits_value 10 xs) (sym is_x) (subst (λ ys. digits_value 10 ys < digits_value 10 (without_leading_sign a)) (sym is_y) (order.1 less))),
-    )
+    let order : (digits_value 10 y < digits_value 10 x) ↔ (number_of a <ℤ number_of b) = rw (is_x, is_y) (below-negative a b (eq-eqb _ 45 minus_a) (eq-eqb _ 45 minus_b)) in
+    (λ holds. order.0 (told.0 holds), λ less. told.1 (order.1 less))
 
 pub both-positive : (a b x y : List ℕ) (r : Bool) → (get_or a 0 0 ≡ 45 → ⊥) → (get_or b 0 0 ≡ 45 → ⊥) → x ≡ without_leading_sign a → y ≡ without_leading_sign b → IsTrue r ↔ (digits_value 10 x < digits_value 10 y) → IsTrue r ↔ (number_of a <ℤ number_of b)
 both-positive a b x y r none_a none_b is_x is_y told =
-    let order = below-positive a b (ne_eqb _ 45 none_a) (ne_eqb _ 45 none_b) in (
-      λ holds. order.0 (subst (λ xs. digits_value 10 xs < digits_value 10 (without_leading_sign b)) is_x (subst (λ ys. digits_value 10 x < digits_value 10 ys) is_y (told.0 holds))),
-      λ less. told.1 (subst (λ xs. digits_value 10 xs < digits_value 10 y) (sym is_x) (subst (λ ys. digits_value 10 (without_leading_sign a) < digits_value 10 ys) (sym is_y) (order.1 less))),
-    )
+    let order : (digits_value 10 x < digits_value 10 y) ↔ (number_of a <ℤ number_of b) = rw (is_x, is_y) (below-positive a b (ne_eqb _ 45 none_a) (ne_eqb _ 45 none_b)) in
+    (λ holds. order.0 (told.0 holds), λ less. told.1 (order.1 less))

@@ -1,26 +1,33 @@
 -- Steps of a reader of digits, and how digits compare.
-use Rattle.std.proofs.Common.{◌≡◌, ℕ, ◌+◌, ◌-◌, ◌*◌, ◌<◌, ◌≤◌, ◌^◌, Bool, true, false, ◌&&◌, not, ◌==◌, nat_lt, min, List, [], ◌∷◌, ◌++◌, length, get_or, drop, sym, refl, ap, ◌∙◌, subst, arith, inl, inr}
-use Rattle.std.specs.Prelude.{filter, ◌↔◌, IsTrue}
+use Rattle.std.proofs.Common.{◌≡◌, ℕ, ◌+◌, ◌-◌, ◌*◌, ◌<◌, ◌≤◌, ◌^◌, Bool, true, false, ◌==◌, nat_lt, min, List, [], ◌∷◌, ◌++◌, length, get_or, drop, sym, refl, ap, ◌∙◌, subst, arith, inl, inr}
+use Rattle.std.specs.Prelude.{◌↔◌, IsTrue}
 use Rattle.std.specs.Char.{is_ascii_digit, digit_value}
 use Rattle.std.specs.Cmp.Lexicographic.{slice_cmp}
-use Rattle.std.specs.List.{list_all}
 use Rattle.std.specs.Ordering.{nat_cmp, is_lt}
 use Rattle.std.specs.Str.{all_ascii_digits}
 use Rattle.std.specs.Str.Parse.{digits_value, digits_value_after}
 use Rattle.std.proofs.Math.Nat.{mul-le-mul_right, pow-le-pow_right}
-use Rattle.std.proofs.lemmas.Bool.{cases_order, and_parts, and_from, lt-ltb, le-ltb, ltb-true}
+use Rattle.std.proofs.lemmas.Bool.{cases_lt, cases_order, and_parts, lt-ltb, le-ltb, ltb-true}
 use Rattle.std.proofs.lemmas.Bool.Decides.{nat_tests}
-use Rattle.std.proofs.lemmas.List.{at_drop_more, append-nil}
-use Rattle.fixed_cost.proofs.DigitSteps.{capped-after}
-use Rattle.number_words.specs.Number.{is_digits, is_plain_digits}
-use Rattle.number_words.specs.Cost.{units_of, decimals_of, is_cost}
-use Rattle.number_words.proofs.Digits.{digit_value-of, digits_value_after-weight, digits_value-below, is_digits-parts, is_plain_digits-parts}
-use Rattle.number_words.proofs.Costs.{cost_parts}
+use Rattle.std.proofs.lemmas.List.{at_drop_more}
+use Rattle.number_words.specs.Number.{is_plain_digits}
+use Rattle.number_words.proofs.Digits.{digit_value-of, digits_value_after-append, digits_value_after-weight, digits_value-below, is_digits-parts, is_plain_digits-parts}
 
--- the test of each byte is the test of digits
-pub list_all-digits : (ds : List ℕ) → list_all is_ascii_digit ds ≡ all_ascii_digits ds
-list_all-digits [] = refl
-list_all-digits (c ∷ cs) = ap (λ b. is_ascii_digit c && b) (list_all-digits cs)
+-- more digits never make a value less
+digits_value_after-ge : (ds : List ℕ) (n : ℕ) → n ≤ digits_value_after 10 n ds
+digits_value_after-ge [] n = omega arith
+digits_value_after-ge (c ∷ cs) n = omega (arith, digits_value_after-ge cs (n * 10 + digit_value c))
+
+-- a cap may be taken before the next digits or after them
+capped-after : (cap : ℕ) (ds : List ℕ) (n : ℕ) → min (digits_value_after 10 (min n cap) ds) cap ≡ min (digits_value_after 10 n ds) cap
+capped-after cap ds n =
+    elim (cases_lt n cap) [
+      | inl low ↦ ap (λ v. min (digits_value_after 10 v ds) cap) (omega arith)
+      | inr high ↦ omega (arith, digits_value_after-ge ds (min n cap), digits_value_after-ge ds n)
+    ]
+
+pub capped-append : (cap : ℕ) (xs ys : List ℕ) (n : ℕ) → min (digits_value_after 10 (min (digits_value_after 10 n xs) cap) ys) cap ≡ min (digits_value_after 10 n (xs ++ ys)) cap
+capped-append cap xs ys n = capped-after cap ys (digits_value_after 10 n xs) ∙ ap (λ v. min v cap) (sym (digits_value_after-append xs ys n))
 
 -- one step of a reader along a list of digits, up to a cap
 pub capped-digit : (cap v c : ℕ) (cs : List ℕ) → is_ascii_digit c ≡ true → min (digits_value_after 10 (min (v * 10 + (c - 48)) cap) cs) cap ≡ min (digits_value_after 10 v (c ∷ cs)) cap
@@ -35,53 +42,6 @@ capped-drop cap v ds i inside digit =
 
 pub digit-drop : (ds : List ℕ) (i : ℕ) → i < length ds → all_ascii_digits (drop i ds) ≡ true → (is_ascii_digit (get_or ds i 0) ≡ true) × (all_ascii_digits (drop (i + 1) ds) ≡ true)
 digit-drop ds i inside digits = and_parts _ _ (sym (at_drop_more all_ascii_digits ds i 0 inside) ∙ digits)
-
--- the bytes of a word but its points
-abbrev pub digits_in : List ℕ → List ℕ
-digits_in word = filter (λ b. not (b == 46)) word
-
-pub digits_in-point : (b : ℕ) (bs : List ℕ) → b ≡ 46 → digits_in (b ∷ bs) ≡ digits_in bs
-digits_in-point b bs point = let is : b == 46 ≡ true = grind (arith, nat_tests) in rw is refl
-
-pub digits_in-other : (b : ℕ) (bs : List ℕ) → (b ≡ 46 → ⊥) → digits_in (b ∷ bs) ≡ b ∷ digits_in bs
-digits_in-other b bs other = let is : b == 46 ≡ false = grind (arith, nat_tests) in rw is refl
-
-digits_in-digits : (ds zs : List ℕ) → all_ascii_digits ds ≡ true → digits_in (ds ++ zs) ≡ ds ++ digits_in zs
-digits_in-digits [] zs digits = refl
-digits_in-digits (c ∷ cs) zs digits =
-    let both = and_parts (is_ascii_digit c) (all_ascii_digits cs) digits in
-    let of = digit_value-of c both.0 in
-    digits_in-other c (cs ++ zs) (λ point. omega arith) ∙ ap (λ xs. c ∷ xs) (digits_in-digits cs zs both.1)
-
-digits_append : (xs ys : List ℕ) → all_ascii_digits xs ≡ true → all_ascii_digits ys ≡ true → all_ascii_digits (xs ++ ys) ≡ true
-digits_append [] ys a b = b
-digits_append (x ∷ xs) ys a b =
-    let both = and_parts (is_ascii_digit x) (all_ascii_digits xs) a in
-    and_from _ _ both.0 (digits_append xs ys both.1 b)
-
--- a cost's bytes but its point are its digits
-pub digits_in-cost : (w : List ℕ) → is_cost w ≡ true → (digits_in w ≡ units_of w ++ decimals_of w) × (all_ascii_digits (digits_in w) ≡ true)
-digits_in-cost w cost =
-    let both = and_parts (is_digits (units_of w)) (is_digits (decimals_of w)) cost in
-    let units = is_digits-parts (units_of w) both.0 in
-    let decimals = is_digits-parts (decimals_of w) both.1 in
-    let same : digits_in w ≡ units_of w ++ decimals_of w =
-    ap digits_in (cost_parts w decimals.0) ∙ digits_in-digits (units_of w) (46 ∷ decimals_of w) units.1
-    ∙ ap (λ xs. units_of w ++ xs) (ap digits_in (sym (append-nil (decimals_of w))) ∙ digits_in-digits (decimals_of w) [] decimals.1 ∙ append-nil (decimals_of w)) in
-    (same, ap all_ascii_digits same ∙ digits_append (units_of w) (decimals_of w) units.1 decimals.1)
-
--- one step of a reader along a cost: a digit, and the point
-pub digit-cost : (w : List ℕ) (i : ℕ) → i < length w → (get_or w i 0 ≡ 46 → ⊥) → all_ascii_digits (digits_in (drop i w)) ≡ true → (is_ascii_digit (get_or w i 0) ≡ true) × (all_ascii_digits (digits_in (drop (i + 1) w)) ≡ true)
-digit-cost w i inside other digits =
-    and_parts _ _ (sym (ap all_ascii_digits (at_drop_more digits_in w i 0 inside ∙ digits_in-other (get_or w i 0) (drop (i + 1) w) other)) ∙ digits)
-
-pub capped-cost : (cap v : ℕ) (w : List ℕ) (i : ℕ) → i < length w → (get_or w i 0 ≡ 46 → ⊥) → all_ascii_digits (digits_in (drop i w)) ≡ true → min (digits_value_after 10 (min (v * 10 + (get_or w i 0 - 48)) cap) (digits_in (drop (i + 1) w))) cap ≡ min (digits_value_after 10 v (digits_in (drop i w))) cap
-capped-cost cap v w i inside other digits =
-    let more = at_drop_more digits_in w i 0 inside ∙ digits_in-other (get_or w i 0) (drop (i + 1) w) other in
-    capped-digit cap v (get_or w i 0) (digits_in (drop (i + 1) w)) (digit-cost w i inside other digits).0 ∙ sym (ap (λ xs. min (digits_value_after 10 v xs) cap) more)
-
-pub point-cost : (w : List ℕ) (i : ℕ) → i < length w → get_or w i 0 ≡ 46 → digits_in (drop i w) ≡ digits_in (drop (i + 1) w)
-point-cost w i inside point = at_drop_more digits_in w i 0 inside ∙ digits_in-point (get_or w i 0) (drop (i + 1) w) point
 
 -- digits that do not begin with a zero are worth a one behind which as many zeros stand as there are others
 digits_value-least : (c : ℕ) (cs : List ℕ) → all_ascii_digits (c ∷ cs) ≡ true → (c ≡ 48 → ⊥) → 10 ^ length cs ≤ digits_value 10 (c ∷ cs)

@@ -1,10 +1,12 @@
 -- Costs, as words spell them: digits, a point and digits.
-use Rattle.std.specs.Prelude.{◌==◌, ℕ, ◌/◌, ◌%◌, Bool, ◌&&◌, List, ◌++◌, length}
+use Rattle.std.specs.Prelude.{◌==◌, ℕ, ◌+◌, ◌/◌, ◌%◌, Bool, ◌&&◌, List, [], ◌∷◌, ◌++◌, length, map}
 use Rattle.std.specs.List.{before_first, after_first}
 use Rattle.std.specs.Str.Parse.{digits_value}
-use Rattle.fixed_cost.specs.Amount.{is_point}
-use Rattle.fixed_cost.specs.Print.{decimals_text}
 use Rattle.number_words.specs.Number.{is_digits, is_plain_digits, digits_text}
+
+-- a decimal point
+abbrev pub is_point : ℕ → Bool
+is_point b = b == 46
 
 -- what stands before the point of a cost
 abbrev pub units_of : List ℕ → List ℕ
@@ -26,6 +28,10 @@ cost_of word = digits_value 10 (units_of word ++ decimals_of word)
 abbrev pub is_plain_cost : List ℕ → Bool
 is_plain_cost word = is_cost word && is_plain_digits (units_of word) && length (decimals_of word) == 6
 
--- millionths of any size in their one spelling. It is `micro_text` of fixed_cost below 10 ^ 70, where std's `decimal` ends
-unfoldable pub cost_text : ℕ → List ℕ
-cost_text n = digits_text (n / 1000000) ++ decimals_text (n % 1000000)
+-- a point, and six digits of a number below a million, with zeros in front
+abbrev pub decimals_text : ℕ → List ℕ
+decimals_text n = 46 ∷ map (λ place. 48 + n / place % 10) (100000 ∷ 10000 ∷ 1000 ∷ 100 ∷ 10 ∷ 1 ∷ [])
+
+-- millionths of any size in their one spelling: the whole units, a point, and six decimals
+unfoldable pub micro_text : ℕ → List ℕ
+micro_text n = digits_text (n / 1000000) ++ decimals_text (n % 1000000)

@@ -2,3 +2,5 @@
 pub mod Cost
 pub mod Line
 pub mod Number
+pub mod Scan
+pub mod Words

@@ -3,7 +3,7 @@
 ghost use Rattle.std.specs.Prelude.{◌≡◌, ◌^◌, min, IsTrue};
 ghost use Rattle.number_words.specs.Cost.{units_of, decimals_of, is_cost, cost_of, is_plain_cost};
 
-use crate::digit_run::{is_digits, is_plain_digits, push_digit};
+use crate::digit_run::{is_digits, is_plain_digits, push_digits};
 
 /// Whether a word spells a cost: one digit or more, a point, and one digit or more.
 pub fn is_cost(word: &[u8]) -> bool
@@ -28,17 +28,12 @@ pub fn cost(word: &[u8]) -> u128
     requires { IsTrue (is_cost word.now) }
     ensures { result ≡ min (cost_of word.now) (10 ^ 30) }
 {
-    let mut value = 0;
-    for b in word {
-        if *b != b'.' {
-            value = push_digit(value, *b - b'0');
-        }
-    }
-    value
+    let (units, decimals) = parts(word);
+    push_digits(push_digits(0, units), decimals)
 }
 
 /// The bytes of a word before its first point, and those after it.
-fn parts(word: &[u8]) -> (&[u8], &[u8])
+pub fn parts(word: &[u8]) -> (&[u8], &[u8])
     ensures units { result.0.now ≡ units_of word.now }
     ensures decimals { result.1.now ≡ decimals_of word.now }
 {

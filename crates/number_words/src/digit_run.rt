@@ -1,24 +1,24 @@
 //! Runs of digits, and what they are worth.
 
-ghost use Rattle.std.specs.Prelude.{◌≡◌, ◌+◌, ◌*◌, ◌≤◌, true, min};
+ghost use Rattle.std.specs.Prelude.{◌≡◌, ◌+◌, ◌*◌, ◌≤◌, ◌^◌, true, min};
 ghost use Rattle.std.specs.Char.{is_ascii_digit};
 ghost use Rattle.std.specs.List.{list_all};
 ghost use Rattle.std.specs.Str.{all_ascii_digits};
-ghost use Rattle.std.specs.Str.Parse.{digits_value};
+ghost use Rattle.std.specs.Str.Parse.{digits_value_after};
 ghost use Rattle.number_words.specs.Number.{is_digits, is_plain_digits};
 
 /// Values stop here, so that words of any length can be read: 10^30.
-pub(crate) const CAP: u128 = 1_000_000_000_000_000_000_000_000_000_000;
+const CAP: u128 = 1_000_000_000_000_000_000_000_000_000_000;
 
 /// Whether a word is one digit or more, and nothing else.
-pub(crate) fn is_digits(word: &[u8]) -> bool
+pub fn is_digits(word: &[u8]) -> bool
     ensures { result ≡ is_digits word.now }
 {
     !word.is_empty() && has_digits_alone(word)
 }
 
 /// Whether each byte is a digit.
-fn has_digits_alone(word: &[u8]) -> bool
+pub fn has_digits_alone(word: &[u8]) -> bool
     ensures { result ≡ list_all is_ascii_digit word.now }
 {
     word.iter().all(|b| b.is_ascii_digit())
@@ -32,7 +32,7 @@ pub(crate) fn is_plain_digits(word: &[u8]) -> bool
 }
 
 /// The value with one more digit behind it, or `CAP` past it.
-pub(crate) fn push_digit(value: u128, digit: u8) -> u128
+fn push_digit(value: u128, digit: u8) -> u128
     requires value { value ≤ CAP }
     requires digit { digit ≤ 9 }
     ensures { result ≡ min (value * 10 + digit) CAP }
@@ -40,14 +40,15 @@ pub(crate) fn push_digit(value: u128, digit: u8) -> u128
     (value * 10 + u128::from(digit)).min(CAP)
 }
 
-/// The value of digits, or `CAP` past it.
-pub(crate) fn capped_value(digits: &[u8]) -> u128
-    requires { all_ascii_digits digits.now ≡ true }
-    ensures { result ≡ min (digits_value 10 digits.now) CAP }
+/// A value with more digits behind it, or 10^30 past it.
+pub fn push_digits(value: u128, digits: &[u8]) -> u128
+    requires value { value ≤ 10 ^ 30 }
+    requires digits { all_ascii_digits digits.now ≡ true }
+    ensures { result ≡ min (digits_value_after 10 value digits.now) (10 ^ 30) }
 {
-    let mut value = 0;
+    let mut whole = value;
     for b in digits {
-        value = push_digit(value, *b - b'0');
+        whole = push_digit(whole, *b - b'0');
     }
-    value
+    whole
 }

@@ -3,15 +3,16 @@
 ghost use Rattle.std.specs.Prelude.{◌≡◌, ℕ, ℤ, ◌<◌, ◌^◌, IsTrue, List, unsigned_abs};
 ghost use Rattle.std.specs.Fmt.{signed_decimal};
 ghost use Rattle.std.specs.List.{list_all};
-ghost use Rattle.fixed_cost.specs.Print.{micro_text};
-ghost use Rattle.number_words.specs.Cost.{is_cost, cost_of, is_plain_cost, cost_text};
+ghost use Rattle.number_words.specs.Cost.{is_cost, cost_of, is_plain_cost, micro_text};
 ghost use Rattle.number_words.specs.Line.{words_of_line, is_word, spaced};
 ghost use Rattle.number_words.specs.Number.{is_number, number_of, is_plain_number, number_text};
+ghost use Rattle.number_words.specs.Words.{words_of, words_in_lines, spaced_lines};
 
-/// Each number and each cost has one plain spelling, and words have one line of single spaces.
+/// Each number and each cost has one plain spelling, words have one line of single spaces, and lines of
+/// words have one text of such lines.
 ///
-/// Numbers and costs are of any size. The texts of std and of `fixed_cost` end at 64 digits of a whole
-/// number: below that they are the plain spelling, and past it they drop the leading digits.
+/// Numbers and costs are of any size. The text of std ends at 64 digits: below that it is the plain
+/// spelling, and past it it drops the leading digits.
 pub fn spelling()
     // A plain number is what is printed of its value, and what is printed is a plain number.
     ensures number { (w : List ℕ) → IsTrue (is_number w) → IsTrue (is_plain_number w) →
@@ -23,23 +24,18 @@ pub fn spelling()
 
     // The same of costs.
     ensures cost { (w : List ℕ) → IsTrue (is_cost w) → IsTrue (is_plain_cost w) →
-        cost_text (cost_of w) ≡ w }
-    ensures is_cost { (n : ℕ) → IsTrue (is_cost (cost_text n)) }
-    ensures is_plain_cost { (n : ℕ) → IsTrue (is_plain_cost (cost_text n)) }
-    ensures cost_back { (n : ℕ) → cost_of (cost_text n) ≡ n }
-    ensures cost_printed { (n : ℕ) → n < 10 ^ 70 → cost_text n ≡ micro_text n }
+        micro_text (cost_of w) ≡ w }
+    ensures is_cost { (n : ℕ) → IsTrue (is_cost (micro_text n)) }
+    ensures is_plain_cost { (n : ℕ) → IsTrue (is_plain_cost (micro_text n)) }
+    ensures cost_back { (n : ℕ) → cost_of (micro_text n) ≡ n }
 
-    // The same of costs as `fixed_cost` prints them.
-    ensures micro { (w : List ℕ) → IsTrue (is_cost w) → IsTrue (is_plain_cost w) →
-        cost_of w < 10 ^ 70 → micro_text (cost_of w) ≡ w }
-    ensures micro_is_cost { (n : ℕ) → IsTrue (is_cost (micro_text n)) }
-    ensures micro_is_plain { (n : ℕ) → n < 10 ^ 70 → IsTrue (is_plain_cost (micro_text n)) }
-    ensures micro_back { (n : ℕ) → n < 10 ^ 70 → cost_of (micro_text n) ≡ n }
-
-    // The words of a line of words are those words, and what is printed is a word.
+    // The words of a line of words are those words, and so in a text of such lines.
     ensures words { (ws : List (List ℕ)) → IsTrue (list_all is_word ws) →
         words_of_line (spaced ws) ≡ ws }
+    ensures lines { (lines : List (List (List ℕ))) → IsTrue (list_all (list_all is_word) lines) →
+        words_of (spaced_lines lines) ≡ words_in_lines 1 lines }
+
+    // What is printed is a word.
     ensures number_is_word { (z : ℤ) → IsTrue (is_word (number_text z)) }
-    ensures cost_is_word { (n : ℕ) → IsTrue (is_word (cost_text n)) }
-    ensures micro_is_word { (n : ℕ) → IsTrue (is_word (micro_text n)) }
+    ensures cost_is_word { (n : ℕ) → IsTrue (is_word (micro_text n)) }
 {}

@@ -3,8 +3,7 @@
 ghost use Rattle.std.specs.Prelude.{◌≡◌, ◌≤◌, ◌<◌, false, length, drop, slice_index};
 ghost use Rattle.std.specs.List.{position_or_len};
 ghost use Rattle.std.specs.Iterator.{YieldsFirstBy, item_count};
-ghost use Rattle.fixed_cost.specs.Words.{is_blank};
-ghost use Rattle.number_words.specs.Line.{words_of_line, is_spaced};
+ghost use Rattle.number_words.specs.Line.{is_blank, words_of_line, is_spaced};
 
 use std::marker::Model;
 
@@ -70,7 +69,7 @@ pub fn is_spaced(line: &[u8]) -> bool
 }
 
 /// Whether a byte is part of no word.
-fn is_blank(b: u8) -> bool
+pub(crate) fn is_blank(b: u8) -> bool
     ensures { result ≡ is_blank b }
 {
     b == b' ' || b == b'\t' || b == b'\r' || b == b'\n'
@@ -90,7 +89,7 @@ fn gap_len(bytes: &[u8]) -> usize
 }
 
 /// How many bytes stand before the first blank.
-fn run_len(bytes: &[u8]) -> usize
+pub(crate) fn run_len(bytes: &[u8]) -> usize
     ensures { result ≡ position_or_len is_blank bytes.now }
 {
     bytes

@@ -4,7 +4,7 @@ ghost use Rattle.std.specs.Prelude.{◌≡◌, ◌↔◌, ◌<◌, ◌≤◌, �
 ghost use Rattle.std.specs.Str.Parse.{digits_value, without_leading_sign};
 ghost use Rattle.number_words.specs.Number.{is_plain_digits, is_number, number_of, is_plain_number, number_text, clamped};
 
-use crate::digit_run::{capped_value, is_digits, is_plain_digits};
+use crate::digit_run::{is_digits, is_plain_digits, push_digits};
 use itoa::Buffer;
 
 /// Whether a word spells a whole number: a sign or none, and digits.
@@ -30,7 +30,7 @@ pub fn number(word: &[u8]) -> i128
     requires { IsTrue (is_number word.now) }
     ensures { result ≡ clamped (number_of word.now) }
 {
-    let size = capped_value(without_sign(word)) as i128;
+    let size = push_digits(0, without_sign(word)) as i128;
     if word[0] == b'-' { -size } else { size }
 }
 

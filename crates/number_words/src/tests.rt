@@ -172,3 +172,38 @@ fn prints_numbers(rt: HostRuntime) {
     assert!(rt; is_printed(i128::MAX, b"170141183460469231731687303715884105727"));
     assert!(rt; is_printed(i128::MIN, b"-170141183460469231731687303715884105728"));
 }
+
+#[test]
+fn finds_words_with_their_places(rt: HostRuntime) {
+    let text = "FILE: a\r\n\n\t2 3  0\r\n 1 \x0b\x00x\n\nlast";
+    let want = [
+        ("FILE:", 1, 1),
+        ("a", 1, 2),
+        ("2", 3, 1),
+        ("3", 3, 2),
+        ("0", 3, 3),
+        ("1", 4, 1),
+        ("\x0b\x00x", 4, 2),
+        ("last", 6, 1),
+    ];
+    let mut words = Words::new(text.as_bytes());
+    for (text, line, place) in want {
+        let word = words.next().expect(&rt, "a word");
+        assert_eq!(rt; word.text, text.as_bytes());
+        assert_eq!(rt; (word.line, word.place), (line, place), "{text}");
+    }
+    assert!(rt; words.next().is_none());
+    assert!(rt; words.next().is_none());
+}
+
+#[test]
+fn digits_around_a_point(rt: HostRuntime) {
+    assert_eq!(rt; parts(b"12.5"), (b"12".as_slice(), b"5".as_slice()));
+    assert_eq!(rt; parts(b"1.2.3"), (b"1".as_slice(), b"2.3".as_slice()));
+    assert_eq!(rt; parts(b"12"), (b"12".as_slice(), b"".as_slice()));
+    assert!(rt; is_digits(b"007"));
+    assert!(rt; !is_digits(b""));
+    assert!(rt; has_digits_alone(b""));
+    assert!(rt; !has_digits_alone(b"+1"));
+    assert_eq!(rt; push_digits(12, b"034"), 12_034);
+}

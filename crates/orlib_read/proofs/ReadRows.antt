@@ -3,7 +3,7 @@ use Rattle.std.proofs.Common.{◌≡◌, ℕ, ◌≤◌, Bool, true, false, List
 use Rattle.std.specs.Prelude.{bytes_eq, codes, if◌then◌else◌}
 use Rattle.location_terms.specs.Instance.{AreSizes}
 use Rattle.fixed_cost.specs.Amount.{amount_of}
-use Rattle.fixed_cost.specs.Words.{PlacedWord}
+use Rattle.number_words.specs.Words.{PlacedWord}
 use Rattle.fixed_cost.specs.declared.amount.AmountFault.{AmountFault}
 use Rattle.fixed_cost.specs.Reading.{Rest, word_at, in_word, amount_at, many_at}
 use Rattle.fixed_cost.proofs.ReadFacts.{bind-ok, done-same, amount_of-small, amount_at-small, AlwaysGives, many_at-each}

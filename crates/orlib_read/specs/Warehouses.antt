@@ -2,7 +2,7 @@
 use Rattle.std.specs.Prelude.{ℕ, List, Option, Some, None, Result, Ok, Err, bytes_eq, codes, if◌then◌else◌}
 use Rattle.location_terms.specs.Instance.{Instance}
 use Rattle.fixed_cost.specs.Amount.{amount_of}
-use Rattle.fixed_cost.specs.Words.{PlacedWord, words_of}
+use Rattle.number_words.specs.Words.{PlacedWord, words_of}
 use Rattle.fixed_cost.specs.Faults.{fault_at}
 use Rattle.fixed_cost.specs.Reading.{Rest, ◌>>=◌, all_of, word_at, in_word, amount_at, many_at, finished}
 use Rattle.fixed_cost.specs.declared.fault.FileFault.{FileFault}

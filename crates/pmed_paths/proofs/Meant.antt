@@ -5,7 +5,7 @@ use Rattle.std.proofs.lemmas.List.{append_assoc, append-nil}
 use Rattle.std.proofs.lemmas.List.Elements.{All-head, All-tail}
 use Rattle.location_terms.specs.Instance.{Instance, IsValid}
 use Rattle.location_terms.specs.declared.limits.TheConstants.{MAX_AMOUNT, MAX_SITES}
-use Rattle.fixed_cost.specs.Words.{words_of}
+use Rattle.number_words.specs.Words.{words_of}
 use Rattle.fixed_cost.specs.declared.fault.FileKind.TheVariants.{BadSize, BadVertex}
 use Rattle.fixed_cost.specs.Reading.{Rest, amount_at, size_at, is_within, many_at}
 use Rattle.fixed_cost.proofs.ReadFacts.{bind-ok, done-same, finished-same, amount_at-small, size_at-tested, AlwaysGives, many_at-each}

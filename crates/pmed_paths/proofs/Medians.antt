@@ -7,7 +7,7 @@ use Rattle.std.proofs.lemmas.List.FromFn.{length-range_with_len, get_or-range_wi
 use Rattle.std.proofs.lemmas.List.Elements.{All-map, All-from_get_or}
 use Rattle.std.proofs.lemmas.List.Folds.{list_any_none, list_any_at}
 use Rattle.location_terms.specs.Instance.{Instance, AreIds, IsValid}
-use Rattle.fixed_cost.specs.Words.{PlacedWord, words_of, end_of}
+use Rattle.number_words.specs.Words.{PlacedWord, words_of, end_of}
 use Rattle.fixed_cost.specs.Reading.{FailsAs}
 use Rattle.instance_store.specs.declared.rows.CustRow.{CustRow}
 use Rattle.instance_store.specs.declared.rows.SiteRow.{SiteRow}

@@ -3,7 +3,7 @@ use Rattle.std.specs.Prelude.{◌==◌, ℕ, ◌-◌, Bool, not, List, map, filt
 use Rattle.std.specs.FinMap as map_of
 use Rattle.location_terms.specs.Instance.{Instance}
 use Rattle.location_terms.specs.declared.limits.TheConstants.{MAX_SITES}
-use Rattle.fixed_cost.specs.Words.{PlacedWord, words_of}
+use Rattle.number_words.specs.Words.{PlacedWord, words_of}
 use Rattle.fixed_cost.specs.Faults.{ended_fault}
 use Rattle.fixed_cost.specs.declared.fault.FormFault.{FormFault}
 use Rattle.fixed_cost.specs.declared.fault.FormFault.TheVariants.{File, NoMemory}

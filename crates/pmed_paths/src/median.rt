@@ -4,7 +4,7 @@ ghost use Rattle.std.specs.Prelude.{◌≡◌, ◌+◌, ◌<◌, ◌≤◌, ◌+
 ghost use Rattle.std.specs.List.{list_any, range_with_len};
 ghost use Rattle.location_terms.specs.Instance.{IsValid};
 ghost use Rattle.fixed_cost.specs.Reading.{Means};
-ghost use Rattle.fixed_cost.specs.Words.{words_of};
+ghost use Rattle.number_words.specs.Words.{words_of};
 ghost use Rattle.instance_store.specs.Small.{IsSmall};
 ghost use Rattle.instance_store.specs.Parts.{AreParts};
 ghost use Rattle.pmed_paths.specs.Arcs.{AreArcs};

@@ -4,7 +4,7 @@ use Rattle.std.specs.List.{range_with_len}
 use Rattle.location_terms.specs.Instance.{Instance, site_at, customer_at}
 use Rattle.location_terms.specs.Bound.{Duals, v_at, slack_of, bound_of}
 use Rattle.location_terms.specs.Fit.{DualsFit}
-use Rattle.fixed_cost.specs.Print.{micro_text}
+use Rattle.number_words.specs.Cost.{micro_text}
 
 -- millionths as text, with six decimals; the program prints none below 0
 abbrev pub amount_text : ℤ → List ℕ

@@ -4,7 +4,7 @@ use Rattle.location_terms.specs.declared.claim.Claim.{Claim}
 use Rattle.location_terms.specs.declared.claim.Claim.TheVariants.{Optimal, Infeasible, Bracket}
 use Rattle.location_terms.specs.Instance.{Instance, lane, fixed_of}
 use Rattle.location_terms.specs.Plan.{Plan}
-use Rattle.fixed_cost.specs.Print.{micro_text}
+use Rattle.number_words.specs.Cost.{micro_text}
 
 abbrev pub high_text : Option ℕ → List ℕ
 high_text None = codes "none"

@@ -1,6 +1,6 @@
 //! Numbers in texts.
 ghost use Rattle.std.specs.Prelude.{◌≡◌, ◌++◌, OnOk, decimal};
-ghost use Rattle.fixed_cost.specs.Print.{micro_text};
+ghost use Rattle.number_words.specs.Cost.{micro_text};
 ghost use Rattle.report.specs.DualsText.{amount_text, FitsU64};
 
 use fixed_cost::print_micro;

@@ -1,7 +1,7 @@
 -- What a file in the simple format of UflLib means. That the line `FILE:` may be missing, and that the third number is 0, are choices of this project.
 use Rattle.std.specs.Prelude.{◌==◌, ℕ, ◌+◌, List, None, replicate, Result, Ok, codes}
 use Rattle.location_terms.specs.Instance.{Instance}
-use Rattle.fixed_cost.specs.Words.{words_of}
+use Rattle.number_words.specs.Words.{words_of}
 use Rattle.fixed_cost.specs.Reading.{Rest, ◌>>=◌, all_of, amount_at, size_at, many_at, finished, untitled}
 use Rattle.fixed_cost.specs.declared.fault.FileFault.{FileFault}
 use Rattle.fixed_cost.specs.declared.fault.FileKind.TheVariants.{BadIndex, NotZero}

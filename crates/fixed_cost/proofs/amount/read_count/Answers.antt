@@ -1,24 +1,19 @@
-use Rattle.std.proofs.Common.{sym, ◌∙◌, inl, inr, arith}
-use Rattle.std.proofs.lemmas.Bool.Decides.{nat_tests}
-use Rattle.fixed_cost.proofs.Spelling.{capped_from-some, capped_from-none, count_of-other, count_of-digits}
+use Rattle.std.proofs.Common.{◌^◌, sym, ◌∙◌, arith}
+use Rattle.std.specs.Str.Parse.{digits_value}
+use Rattle.fixed_cost.proofs.Spelling.{count_of-other, count_of-digits, in_limit, past_limit}
 use Rattle.fixed_cost.proofs.amount.read_count.Goals as goal
 
-pub returns-then-is_empty : goal.returns-then-is_empty
-returns-then-is_empty c = sym (count_of-other c.args.word.now (inl (sym c.is_empty.ensures ∙ c.if-is_empty.true)))
+pub returns-then-not-is_digits : goal.returns-then-not-is_digits
+returns-then-not-is_digits c = sym (count_of-other c.args.word.now (sym c.is_digits.ensures ∙ c.if-not-is_digits.true))
 
-pub returns-in-None : goal.returns-in-None
-returns-in-None c = sym (count_of-other c.args.word.now (inr (capped_from-none 0 c.args.word.now (sym c.in-None.is ∙ c.capped_value.ensures))))
-
-pub returns-in-Some : goal.returns-in-Some
-returns-in-Some c =
+pub returns-then-value-from : goal.returns-then-value-from
+returns-then-value-from c =
     let word = c.args.word.now in
-    let found = capped_from-some 0 c.in-Some.value word (sym c.in-Some.is ∙ c.capped_value.ensures) in
-    let read = count_of-digits word (sym c.is_empty.ensures ∙ c.if-is_empty.false) found.0 in
-    grind (arith, nat_tests)
+    sym (count_of-digits word (sym c.is_digits.ensures ∙ c.if-not-is_digits.false)
+    ∙ in_limit (digits_value 10 word) 4294967295 (10 ^ 30) c.push_digits-value.result c.push_digits-value.ensures (omega arith) (omega arith))
 
-pub returns-in-Some-2 : goal.returns-in-Some-2
-returns-in-Some-2 c =
+pub returns-else-value-from : goal.returns-else-value-from
+returns-else-value-from c =
     let word = c.args.word.now in
-    let found = capped_from-some 0 c.in-Some.value word (sym c.in-Some.is ∙ c.capped_value.ensures) in
-    let read = count_of-digits word (sym c.is_empty.ensures ∙ c.if-is_empty.false) found.0 in
-    grind (arith, nat_tests)
+    sym (count_of-digits word (sym c.is_digits.ensures ∙ c.if-not-is_digits.false)
+    ∙ past_limit (digits_value 10 word) 4294967295 (10 ^ 30) c.push_digits-value.result c.push_digits-value.ensures (λ low. omega arith))

@@ -1,8 +1,10 @@
-use Rattle.std.proofs.Common.{◌≡◌, ◌+◌, ◌-◌, ◌/◌, ◌%◌, ◌≤◌, length, length-append, take_at, ap, ◌∙◌, arith, rules}
+use Rattle.std.proofs.Common.{◌≡◌, ◌+◌, ◌-◌, ◌/◌, ◌%◌, ◌≤◌, length, length-append, take_at, sym, ap, ◌∙◌, arith, rules}
 use Rattle.std.specs.Prelude.{decimal}
 use Rattle.std.proofs.lemmas.Fmt.{length-decimal-le}
 use Rattle.std.proofs.lemmas.Slice.{take-put_mid}
-use Rattle.fixed_cost.specs.Print.{micro_text, decimals_text}
+use Rattle.number_words.specs.Cost.{micro_text, decimals_text}
+use Rattle.number_words.specs.Number.{digits_text}
+use Rattle.number_words.proofs.Digits.{digits_text-decimal}
 use Rattle.fixed_cost.proofs.Printed.{amount_of-micro_text}
 use Rattle.fixed_cost.proofs.print.print_micro.Goals as goal
 
@@ -15,7 +17,8 @@ slice_bounds-copy_from_slice-end-3 c =
 pub returns-clause-text : goal.returns-clause-text
 unfolding micro_text
 returns-clause-text c =
-    let whole : c.copy_from_slice.new.self ≡ decimal (c.args.value / 1000000) = c.copy_from_slice.ensures.after ∙ c.as_bytes-whole.ensures.value ∙ c.format.ensures.text in
+    let whole : c.copy_from_slice.new.self ≡ digits_text (c.args.value / 1000000) =
+    c.copy_from_slice.ensures.after ∙ c.as_bytes-whole.ensures.value ∙ c.format.ensures.text ∙ sym (digits_text-decimal (c.args.value / 1000000) (omega arith)) in
     let decimals : c.copy_from_slice-2.new.self ≡ decimals_text (c.args.value % 1000000) = c.copy_from_slice-2.ensures.after ∙ c.decimals.ensures in
     let n = length c.as_bytes-whole.result.now in
     let long : length c.copy_from_slice.new.self ≡ n = ap length c.copy_from_slice.ensures.after in
@@ -25,8 +28,9 @@ returns-clause-text c =
 pub returns-clause-length : goal.returns-clause-length
 unfolding micro_text
 returns-clause-length c =
-    let text : c.as_bytes-whole.result.now ≡ decimal (c.args.value / 1000000) = c.as_bytes-whole.ensures.value ∙ c.format.ensures.text in
-    omega (arith, ap length text, length-append (decimal (c.args.value / 1000000)) (decimals_text (c.args.value % 1000000)))
+    let text : c.as_bytes-whole.result.now ≡ digits_text (c.args.value / 1000000) =
+    c.as_bytes-whole.ensures.value ∙ c.format.ensures.text ∙ sym (digits_text-decimal (c.args.value / 1000000) (omega arith)) in
+    omega (arith, ap length text, length-append (digits_text (c.args.value / 1000000)) (decimals_text (c.args.value % 1000000)))
 
 pub returns-clause-read_back : goal.returns-clause-read_back
 returns-clause-read_back c = amount_of-micro_text c.args.value

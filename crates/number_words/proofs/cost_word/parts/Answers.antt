@@ -1,7 +1,7 @@
 use Rattle.std.proofs.Common.{◌+◌, length, take, drop, sym, ap, ◌∙◌, arith, rules, take_all}
 use Rattle.std.proofs.lemmas.List.{take_rest, drop_all}
 use Rattle.std.proofs.lemmas.List.Sums.{position_or_len_is}
-use Rattle.fixed_cost.specs.Amount.{is_point}
+use Rattle.number_words.specs.Cost.{is_point}
 use Rattle.number_words.proofs.cost_word.parts.Goals as goal
 
 pub returns-in-Some-clause-units : goal.returns-in-Some-clause-units

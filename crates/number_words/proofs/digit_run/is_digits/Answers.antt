@@ -1,6 +1,6 @@
 use Rattle.std.proofs.Common.{◌≡◌, ◌&&◌, ◌==◌, not, false, length, sym, ap, ◌∙◌}
 use Rattle.std.specs.Str.{all_ascii_digits}
-use Rattle.number_words.proofs.Values.{list_all-digits}
+use Rattle.number_words.proofs.Digits.{list_all-digits}
 use Rattle.number_words.proofs.digit_run.is_digits.Goals as goal
 
 pub returns-then-not-is_empty : goal.returns-then-not-is_empty

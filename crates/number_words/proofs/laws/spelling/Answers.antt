@@ -1,6 +1,7 @@
-use Rattle.number_words.proofs.Costs.{cost_text-cost_of, is_cost-cost_text, is_plain_cost-cost_text, cost_of-cost_text, cost_text-micro_text, micro_text-cost_of, is_cost-micro_text, is_plain_cost-micro_text, cost_of-micro_text}
-use Rattle.number_words.proofs.Lines.{words_of_line-spaced, is_word-number_text, is_word-cost_text, is_word-micro_text}
+use Rattle.number_words.proofs.Costs.{micro_text-cost_of, is_cost-micro_text, is_plain_cost-micro_text, cost_of-micro_text}
+use Rattle.number_words.proofs.Lines.{words_of_line-spaced, is_word-number_text, is_word-micro_text}
 use Rattle.number_words.proofs.Numbers.{number_text-number_of, is_number-number_text, is_plain_number-number_text, number_of-number_text, number_text-signed_decimal}
+use Rattle.number_words.proofs.WordSteps.{words_of-spaced_lines}
 use Rattle.number_words.proofs.laws.spelling.Goals as goal
 
 pub returns-clause-number : goal.returns-clause-number
@@ -19,40 +20,25 @@ pub returns-clause-number_printed : goal.returns-clause-number_printed
 returns-clause-number_printed c z small = number_text-signed_decimal z small
 
 pub returns-clause-cost : goal.returns-clause-cost
-returns-clause-cost c w cost plain = cost_text-cost_of w plain
+returns-clause-cost c w cost plain = micro_text-cost_of w plain
 
 pub returns-clause-is_cost : goal.returns-clause-is_cost
-returns-clause-is_cost c n = is_cost-cost_text n
+returns-clause-is_cost c n = is_cost-micro_text n
 
 pub returns-clause-is_plain_cost : goal.returns-clause-is_plain_cost
-returns-clause-is_plain_cost c n = is_plain_cost-cost_text n
+returns-clause-is_plain_cost c n = is_plain_cost-micro_text n
 
 pub returns-clause-cost_back : goal.returns-clause-cost_back
-returns-clause-cost_back c n = cost_of-cost_text n
-
-pub returns-clause-cost_printed : goal.returns-clause-cost_printed
-returns-clause-cost_printed c n small = cost_text-micro_text n small
-
-pub returns-clause-micro : goal.returns-clause-micro
-returns-clause-micro c w cost plain small = micro_text-cost_of w plain small
-
-pub returns-clause-micro_is_cost : goal.returns-clause-micro_is_cost
-returns-clause-micro_is_cost c n = is_cost-micro_text n
-
-pub returns-clause-micro_is_plain : goal.returns-clause-micro_is_plain
-returns-clause-micro_is_plain c n small = is_plain_cost-micro_text n small
-
-pub returns-clause-micro_back : goal.returns-clause-micro_back
-returns-clause-micro_back c n small = cost_of-micro_text n small
+returns-clause-cost_back c n = cost_of-micro_text n
 
 pub returns-clause-words : goal.returns-clause-words
 returns-clause-words c ws words = words_of_line-spaced ws words
+
+pub returns-clause-lines : goal.returns-clause-lines
+returns-clause-lines c lines words = words_of-spaced_lines lines words
 
 pub returns-clause-number_is_word : goal.returns-clause-number_is_word
 returns-clause-number_is_word c z = is_word-number_text z
 
 pub returns-clause-cost_is_word : goal.returns-clause-cost_is_word
-returns-clause-cost_is_word c n = is_word-cost_text n
-
-pub returns-clause-micro_is_word : goal.returns-clause-micro_is_word
-returns-clause-micro_is_word c n = is_word-micro_text n
+returns-clause-cost_is_word c n = is_word-micro_text n

@@ -1,5 +1,5 @@
 use Rattle.std.proofs.Common.{◌≡◌, ◌<◌, true, get_or, length, drop, sym, ap, ◌∙◌, inl, inr, arith}
-use Rattle.fixed_cost.specs.Words.{is_blank}
+use Rattle.number_words.specs.Line.{is_blank}
 use Rattle.number_words.proofs.Lines.{spaced_from, is_spaced-in_word, is_spaced-blank, spaced_from-drop_part, spaced_from-drop_space, spaced_from-drop_other, is_spaced-spaced_from}
 use Rattle.number_words.proofs.line.is_spaced.Goals as goal
 use Rattle.number_words.proofs.line.is_spaced.Goals.{else-in_word-via-then-in_word+else-b-eq32, else-in_word-via-else-in_word, then-not-is_blank, else-not-is_blank+then-in_word+then-b-eq32}

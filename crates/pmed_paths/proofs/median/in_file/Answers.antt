@@ -1,5 +1,5 @@
 use Rattle.std.proofs.Common.{◌≤◌, sym, subst}
-use Rattle.fixed_cost.specs.Words.{words_of}
+use Rattle.number_words.specs.Words.{words_of}
 use Rattle.fixed_cost.specs.declared.fault.FileFault.{FileFault}
 use Rattle.pmed_paths.proofs.Medians.{end_positive}
 use Rattle.pmed_paths.proofs.median.in_file.Goals as goal

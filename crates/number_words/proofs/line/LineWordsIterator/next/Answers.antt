@@ -2,9 +2,9 @@ use Rattle.std.proofs.Common.{◌≡◌, ◌-◌, ◌<◌, not, [], ◌∷◌, l
 use Rattle.std.specs.List.{position_or_len, before_first}
 use Rattle.std.proofs.lemmas.Bool.Decides.{nat_tests}
 use Rattle.std.proofs.lemmas.List.Sums.{prefix_len-le-length}
-use Rattle.fixed_cost.specs.Words.{is_blank}
+use Rattle.number_words.specs.Line.{is_blank}
 use Rattle.number_words.specs.Line.{words_of_line}
-use Rattle.number_words.proofs.Lines.{words_of_line-first, words_of_line-none, front-split, back-split}
+use Rattle.number_words.proofs.Lines.{words_of_line-first, nothing_left, front-split, back-split}
 use Rattle.number_words.proofs.line.LineWordsIterator.next.Goals as goal
 
 pub split_at-requires : goal.split_at-requires
@@ -20,7 +20,7 @@ returns-then-is_empty-clause-steps c =
     let word = front-split rest c.split_at.result.0.now len c.run_len.result c.run_len.ensures c.split_at.ensures.front in
     let behind = back-split rest c.split_at.result.1.now len c.run_len.result c.run_len.ensures c.split_at.ensures.back in
     let empty : length (before_first is_blank (drop len rest)) ≡ 0 = grind (arith, nat_tests, ap length word) in
-    let none = words_of_line-none rest len c.gap_len.ensures.stops empty in
+    let none = nothing_left rest len c.gap_len.ensures.stops empty in
     let end : c.split_at.result.1.now ≡ [] = behind ∙ ap (λ xs. drop (position_or_len is_blank xs) xs) none in
     (sym c.self.view_is ∙ sym c.gap_len.ensures.same ∙ ap words_of_line none, ap words_of_line end)
 

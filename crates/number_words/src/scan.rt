@@ -1,12 +1,13 @@
 //! The words of a text, one after another.
 
 ghost use Rattle.std.specs.Prelude.{◌≡◌, ◌-◌, ◌<◌, ◌≤◌, false, length, drop, slice_index};
-ghost use Rattle.std.specs.List.{position_or_len};
 ghost use Rattle.std.specs.Iterator.{YieldsFirstBy, item_count};
-ghost use Rattle.fixed_cost.specs.Words.{placed, is_blank, words_of};
-ghost use Rattle.fixed_cost.specs.Scan.{words_left, HasRoom};
+ghost use Rattle.number_words.specs.Line.{is_blank};
+ghost use Rattle.number_words.specs.Words.{placed, words_of};
+ghost use Rattle.number_words.specs.Scan.{words_left, HasRoom};
 
-use crate::limits::MAX_INSTANCE_BYTES;
+use crate::limits::MAX_TEXT_BYTES;
+use crate::line::{is_blank, run_len};
 use crate::word::Word;
 use std::marker::Model;
 
@@ -20,11 +21,11 @@ pub struct Words<'a> {
 
 impl<'a> Model for Words<'a> {
     ghost use Rattle.std.specs.Prelude.{List, length};
-    ghost use Rattle.fixed_cost.specs.Words.{PlacedWord};
+    ghost use Rattle.number_words.specs.Words.{PlacedWord};
 
     ghost Value = { List PlacedWord };
 
-    ghost use Rattle.fixed_cost.specs.Scan.{words_behind, HasRoom};
+    ghost use Rattle.number_words.specs.Scan.{words_behind, HasRoom};
 
     ghost view = { words_behind };
 
@@ -32,9 +33,9 @@ impl<'a> Model for Words<'a> {
 }
 
 impl<'a> Words<'a> {
-    /// The words of a text of at most `MAX_INSTANCE_BYTES`.
+    /// The words of a text of at most `MAX_TEXT_BYTES`.
     pub fn new(bytes: &'a [u8]) -> Words<'a>
-        requires { length bytes.now ≤ MAX_INSTANCE_BYTES }
+        requires { length bytes.now ≤ MAX_TEXT_BYTES }
         ensures { result ≡ words_of bytes.now }
     {
         Words {
@@ -82,13 +83,6 @@ impl<'a> Iterator for Words<'a> {
     }
 }
 
-/// Whether a byte is part of no word.
-fn is_blank(b: u8) -> bool
-    ensures { result ≡ is_blank b }
-{
-    b == b' ' || b == b'\t' || b == b'\r' || b == b'\n'
-}
-
 /// The blanks before a word, and the line and the place behind them.
 #[derive(Clone, Copy)]
 struct Gap {
@@ -118,14 +112,4 @@ fn gap_before_word(bytes: &[u8], line: u32, place: u32) -> Gap
         gap.len += 1;
     }
     gap
-}
-
-/// How many bytes stand before the first blank.
-fn run_len(bytes: &[u8]) -> usize
-    ensures { result ≡ position_or_len is_blank bytes.now }
-{
-    bytes
-        .iter()
-        .position(|b| is_blank(*b))
-        .unwrap_or(bytes.len())
 }

@@ -1,6 +1,6 @@
 use Rattle.std.proofs.Common.{◌≡◌, ◌-◌, ◌≤◌, length, drop}
-use Rattle.fixed_cost.specs.Scan.{words_left, HasRoom}
-use Rattle.fixed_cost.proofs.scan.gap_before_word.Given as goal
+use Rattle.number_words.specs.Scan.{words_left, HasRoom}
+use Rattle.number_words.proofs.scan.gap_before_word.Given as goal
 
 -- what is behind the blanks so far gives the same words
 abbrev pub invariant-loop-gap : goal.invariant-loop-gap

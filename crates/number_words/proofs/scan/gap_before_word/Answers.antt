@@ -1,8 +1,8 @@
 use Rattle.std.proofs.Common.{◌≡◌, true, get_or, sym, ◌∙◌, arith}
-use Rattle.fixed_cost.specs.Words.{is_blank}
-use Rattle.fixed_cost.proofs.WordSteps.{words_left-drop_line_feed, words_left-drop_blank}
-use Rattle.fixed_cost.proofs.scan.gap_before_word.Goals as goal
-use Rattle.fixed_cost.proofs.scan.gap_before_word.Goals.{then-bytes-gap-eq10, else-bytes-gap-eq10}
+use Rattle.number_words.specs.Line.{is_blank}
+use Rattle.number_words.proofs.WordSteps.{words_left-drop_line_feed, words_left-drop_blank}
+use Rattle.number_words.proofs.scan.gap_before_word.Goals as goal
+use Rattle.number_words.proofs.scan.gap_before_word.Goals.{then-bytes-gap-eq10, else-bytes-gap-eq10}
 
 pub loop-gap-preserved : goal.loop-gap-preserved
 loop-gap-preserved c =

@@ -1,9 +1,9 @@
 //! A word of a text.
 
 ghost use Rattle.std.specs.Prelude.{◌<◌, ◌≤◌, length};
-ghost use Rattle.fixed_cost.specs.declared.limits.TheConstants.{MAX_INSTANCE_BYTES};
+ghost use Rattle.number_words.specs.declared.limits.TheConstants.{MAX_TEXT_BYTES};
 
-/// A word of a text of at most `MAX_INSTANCE_BYTES`: a longest run of bytes without space, tab, carriage
+/// A word of a text of at most `MAX_TEXT_BYTES`: a longest run of bytes without space, tab, carriage
 /// return and line feed.
 #[derive(Clone, Copy, Debug)]
 pub struct Word<'a> {
@@ -15,6 +15,6 @@ pub struct Word<'a> {
     pub ghost nonempty: { 0 < length text.now },
     pub ghost line_counts: { 1 ≤ line },
     pub ghost place_counts: { 1 ≤ place },
-    pub ghost line_fits: { line ≤ MAX_INSTANCE_BYTES },
-    pub ghost place_fits: { place ≤ MAX_INSTANCE_BYTES },
+    pub ghost line_fits: { line ≤ MAX_TEXT_BYTES },
+    pub ghost place_fits: { place ≤ MAX_TEXT_BYTES },
 }
