@@ -1,6 +1,6 @@
 -- The first line feed of some bytes, and what stands before and behind it.
 use Rattle.std.proofs.Common.{◌≡◌, ℕ, ◌+◌, ◌<◌, ◌≤◌, Bool, true, false, cond, not, nat_lt, List, ◌∷◌, ◌++◌, length, take, drop, get_or, get_or-take, refl, sym, ap, ◌∙◌, subst, arith}
-use Rattle.std.specs.Prelude.{None, Some}
+use Rattle.std.specs.Prelude.{None, Some, unwrap_or}
 use Rattle.std.specs.List.{position, position_or_len, before_first, after_first}
 use Rattle.std.proofs.lemmas.Bool.{ltb-true, ltb-false, eqb-true}
 use Rattle.std.proofs.lemmas.List.{take_all, drop_all, drop-drop, length-take}
@@ -26,6 +26,14 @@ feed_missing : (xs : List ℕ) → position is_line_feed xs ≡ None → positio
 feed_missing xs e =
     let past : length xs ≤ position_or_len is_line_feed xs = ltb-false _ _ (cond_none (nat_lt (position_or_len is_line_feed xs) (length xs)) (position_or_len is_line_feed xs) e) in
     omega (arith, prefix_len-le-length (λ b. not (is_line_feed b)) xs)
+
+-- how many bytes stand before the first line feed, or how many there are
+pub feed_or_end : (xs : List ℕ) → unwrap_or (position is_line_feed xs) (length xs) ≡ position_or_len is_line_feed xs
+feed_or_end xs =
+    elim (position is_line_feed xs) as (λ found. position is_line_feed xs ≡ found → unwrap_or found (length xs) ≡ position_or_len is_line_feed xs) [
+      | None ↦ λ e. sym (feed_missing xs e)
+      | Some k ↦ λ e. sym (feed_found xs k e).0
+    ] refl
 
 -- The two ends of a step that hands out bytes ahead: at a line feed, and at the end of the piece.
 

@@ -1,4 +1,5 @@
 pub mod Feeds
+pub mod InputSteps
 pub mod Pieces
 pub mod Split
 pub mod Steps

@@ -16,7 +16,7 @@ piece_and_rest at n limit file within =
     ∙ take-append-drop n (drop at (take limit file))
 
 -- nothing of a piece is left, whatever stands in it
-nothing_ahead : (from to : ℕ) (old new : List ℕ) → to ≤ length old → drop from (take to old) ≡ [] → drop from (take to new) ≡ []
+pub nothing_ahead : (from to : ℕ) (old new : List ℕ) → to ≤ length old → drop from (take to old) ≡ [] → drop from (take to new) ≡ []
 nothing_ahead from to old new within none =
     drop_all from (take to new) (omega (arith, length-drop from (take to old), length-take to old, length-take to new, ap length none))
 

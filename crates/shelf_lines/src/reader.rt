@@ -1,17 +1,15 @@
-// A reader of lines.
-ghost use Rattle.std.specs.Prelude.{◌≡◌, ℕ, ◌+◌, ◌<◌, ◌≤◌, ◌≢◌, ◌↔◌, List, [], ◌∷◌, ◌++◌, length, take, IfOk, OnOk, OnErr, IsErrOf, IsTrue, ⊤};
+// The machine that makes lines of pieces: it holds one piece and one line. How the next piece comes
+// stands in `file.rt` and in `input.rt`.
+ghost use Rattle.std.specs.Prelude.{◌≡◌, ℕ, ◌+◌, ◌<◌, ◌↔◌, List, [], length, take, IfOk, OnOk, OnErr, IsTrue};
 ghost use Rattle.std.specs.List.{position, position_or_len};
-ghost use Rattle.shelf_port.specs.Files.{HasFile, Rose, NeverFalls};
-ghost use Rattle.shelf_lines.specs.Rest.{start_of, ForFile, rest_of, unread, IsAtEnd, IsAtLimit, Takes};
-ghost use Rattle.shelf_lines.specs.Line.{is_line_feed, IsLine};
+ghost use Rattle.shelf_lines.specs.Rest.{start_of, rest_of, unread, Takes};
+ghost use Rattle.shelf_lines.specs.Line.{is_line_feed};
 
-use crate::fault::LineFault;
-use shelf_port::{Shelf, ShelfFault};
 use std::alloc::{AllocError, Global};
 use std::marker::Model;
 
-/// How many bytes one read of a file asks for at most.
-const PIECE: usize = 65_536;
+/// How many bytes one read asks for at most.
+pub(crate) const PIECE: usize = 65_536;
 
 const LINE_FEED: u8 = 10;
 
@@ -40,13 +38,14 @@ pub enum Next {
 /// A reader of the lines of a file, of which it looks at the first bytes, up to a limit.
 ///
 /// It holds one piece of the file and one line. Each call is to be given the same shelf and name.
+/// The lines of an input are those of `InputLines`.
 #[derive(Drop)]
 pub struct LineReader {
-    limit: u64,
-    at: u64,
-    piece: [u8; PIECE],
-    from: usize,
-    to: usize,
+    pub(crate) limit: u64,
+    pub(crate) at: u64,
+    pub(crate) piece: [u8; PIECE],
+    pub(crate) from: usize,
+    pub(crate) to: usize,
     line: Vec<u8>,
 }
 
@@ -82,127 +81,15 @@ impl LineReader {
         }
     }
 
-    /// What is ahead: a byte, the end of the file, or the limit. It hands out nothing, and after a
-    /// fault the reader is as it was.
-    ///
-    /// `Failed` comes where a read failed, as on a name without a file, and `NoMemory` where the shelf
-    /// had none.
-    pub fn peek<H: Shelf>(&mut self, shelf: &mut H, name: &str) -> Result<Ahead, LineFault>
-        ensures bytes { result ≡ Ok Ahead.Bytes → 0 < length self.new.ahead }
-        ensures end { result ≡ Ok Ahead.End →
-            HasFile (H.files shelf.old) name.now (IsAtEnd self.new) }
-        ensures limit { result ≡ Ok Ahead.Limit →
-            HasFile (H.files shelf.old) name.now (IsAtLimit self.new) }
-
-        // Where nothing is ahead, a look finds out whether the file is there.
-        ensures there { OnOk result (self.old.ahead ≡ [] →
-            HasFile (H.files shelf.old) name.now (λ _. ⊤)) }
-        ensures failed { IsErrOf result LineFault.Failed →
-            Rose (H.read_faults shelf.old name.now) (H.read_faults shelf.new name.now) }
-
-        // Nothing is handed out, whatever the answer.
-        ensures rest { ForFile (H.files shelf.old) name.now
-            (λ file. rest_of self.new file ≡ rest_of self.old file) }
-        ensures unread { unread self.new ≡ unread self.old }
-        ensures same_line { self.new.line ≡ self.old.line }
-        ensures same_limit { self.new.limit ≡ self.old.limit }
-
-        ensures unchanged { H.files shelf.new ≡ H.files shelf.old }
-        ensures reads { NeverFalls (H.read_faults shelf.old) (H.read_faults shelf.new) }
-        ensures writes { NeverFalls (H.write_faults shelf.old) (H.write_faults shelf.new) }
-    {
-        if self.from < self.to {
-            return Ok(Ahead::Bytes);
-        }
-        if self.at < self.limit {
-            return self.fetch(shelf, name);
-        }
-        let is_longer = has_byte_at(shelf, name, self.at)?;
-        Ok(if is_longer { Ahead::Limit } else { Ahead::End })
-    }
-
-    // Reads the next piece, where nothing of the last one is left and the limit is not reached.
-    fn fetch<H: Shelf>(&mut self, shelf: &mut H, name: &str) -> Result<Ahead, LineFault>
-        requires nothing_ahead { self.old.ahead ≡ [] }
-        requires below_limit { self.old.at < self.old.limit }
-        ensures bytes { result ≡ Ok Ahead.Bytes → 0 < length self.new.ahead }
-        ensures end { result ≡ Ok Ahead.End →
-            HasFile (H.files shelf.old) name.now (IsAtEnd self.new) }
-        ensures limit { IfOk result (λ ahead. ahead ≢ Ahead.Limit) }
-        ensures there { OnOk result (HasFile (H.files shelf.old) name.now (λ _. ⊤)) }
-        ensures failed { IsErrOf result LineFault.Failed →
-            Rose (H.read_faults shelf.old name.now) (H.read_faults shelf.new name.now) }
-
-        ensures rest { ForFile (H.files shelf.old) name.now
-            (λ file. rest_of self.new file ≡ rest_of self.old file) }
-        ensures unread { unread self.new ≡ unread self.old }
-        ensures same_line { self.new.line ≡ self.old.line }
-        ensures same_limit { self.new.limit ≡ self.old.limit }
-
-        ensures unchanged { H.files shelf.new ≡ H.files shelf.old }
-        ensures reads { NeverFalls (H.read_faults shelf.old) (H.read_faults shelf.new) }
-        ensures writes { NeverFalls (H.write_faults shelf.old) (H.write_faults shelf.new) }
-    {
-        let room = (self.limit - self.at).min(PIECE as u64) as usize;
-        let count = shelf.read_at(name, self.at, &mut self.piece[..room])?;
-        self.from = 0;
-        self.to = count;
-        self.at += count as u64;
-        Ok(if count == 0 { Ahead::End } else { Ahead::Bytes })
-    }
-
-    /// The next line: its bytes stand in `line` afterwards, without the line feed that ended it. Where
-    /// no line feed is left, what is left stands there. After a fault the bytes that were taken so far
-    /// stand there, and the reader goes on behind them.
-    ///
-    /// `Failed` comes where a read failed, as on a name without a file, and `NoMemory` where the line
-    /// or the shelf had none.
-    pub fn next<H: Shelf>(&mut self, shelf: &mut H, name: &str) -> Result<Next, LineFault>
-        ensures line { result ≡ Ok Next.Line → ForFile (H.files shelf.old) name.now
-            (λ file. rest_of self.old file ≡ self.new.line ++ 10 ∷ rest_of self.new file) }
-        ensures end { result ≡ Ok Next.End → HasFile (H.files shelf.old) name.now
-            (λ file. (rest_of self.old file ≡ self.new.line) × IsAtEnd self.new file) }
-        ensures limit { result ≡ Ok Next.Limit → HasFile (H.files shelf.old) name.now
-            (λ file. (rest_of self.old file ≡ self.new.line) × IsAtLimit self.new file) }
-        ensures is_line { OnOk result (IsLine self.new.line) }
-        ensures there { OnOk result (self.old.ahead ≡ [] →
-            HasFile (H.files shelf.old) name.now (λ _. ⊤)) }
-        ensures err { OnErr result (ForFile (H.files shelf.old) name.now
-            (λ file. rest_of self.old file ≡ self.new.line ++ rest_of self.new file)) }
-        ensures failed { IsErrOf result LineFault.Failed →
-            Rose (H.read_faults shelf.old name.now) (H.read_faults shelf.new name.now) }
-
-        ensures unread { result ≡ Ok Next.Line →
-            unread self.old ≡ length self.new.line + 1 + unread self.new }
-        ensures same_limit { self.new.limit ≡ self.old.limit }
-
-        ensures unchanged { H.files shelf.new ≡ H.files shelf.old }
-        ensures reads { NeverFalls (H.read_faults shelf.old) (H.read_faults shelf.new) }
-        ensures writes { NeverFalls (H.write_faults shelf.old) (H.write_faults shelf.new) }
-    {
-        self.clear_line();
-        loop {
-            match self.peek(shelf, name)? {
-                Ahead::Bytes => {
-                    if self.take_to_feed()? {
-                        return Ok(Next::Line);
-                    }
-                }
-                Ahead::End => return Ok(Next::End),
-                Ahead::Limit => return Ok(Next::Limit),
-            }
-        }
-    }
-
     // Lets the last line go.
-    fn clear_line(&mut self)
+    pub(crate) fn clear_line(&mut self)
         ensures { self.new ≡ record self.old { line = [] } }
     {
         self.line.clear();
     }
 
     // Hands out the bytes ahead up to the first line feed, and passes over it. Says whether it is there.
-    fn take_to_feed(&mut self) -> Result<bool, AllocError>
+    pub(crate) fn take_to_feed(&mut self) -> Result<bool, AllocError>
         ensures took { OnOk result (Takes self.old self.new) }
         ensures err { OnErr result (self.new ≡ self.old) }
         ensures found { IfOk result (λ found. IsTrue found ↔
@@ -230,6 +117,32 @@ impl LineReader {
         }
     }
 
+    // The bytes that were fetched and not handed out yet.
+    pub(crate) fn ahead(&self) -> &[u8]
+        ensures { result.now ≡ self.now.ahead }
+    {
+        &self.piece[self.from..self.to]
+    }
+
+    // Whether every byte that the reader looks at was handed out.
+    pub(crate) fn is_spent(&self) -> bool
+        ensures { IsTrue result ↔ (unread self.now ≡ 0) }
+    {
+        if self.at < self.limit {
+            return false;
+        }
+        self.ahead().is_empty()
+    }
+
+    // Whether the line has more than so many bytes with those ahead of it up to the first line feed.
+    pub(crate) fn passes(&self, most: usize) -> bool
+        ensures { IsTrue result ↔
+            (most < length self.now.line + position_or_len is_line_feed self.now.ahead) }
+    {
+        let more = bytes_to_feed(self.ahead());
+        self.line.len() > most || more > most - self.line.len()
+    }
+
     /// The line that was handed out last: its bytes, without the line feed.
     pub fn line(&self) -> &[u8]
         ensures { result.now ≡ self.now.line }
@@ -245,17 +158,9 @@ fn first_feed(bytes: &[u8]) -> Option<usize>
     bytes.iter().position(|b| *b == LINE_FEED)
 }
 
-// Whether the named file has a byte at this place, counted from 0.
-fn has_byte_at<H: Shelf>(shelf: &mut H, name: &str, at: u64) -> Result<bool, ShelfFault>
-    ensures ok { IfOk result (λ is_there. HasFile (H.files shelf.old) name.now
-        (λ file. IsTrue is_there ↔ (at < length file))) }
-    ensures failed { IsErrOf result ShelfFault.Failed →
-        Rose (H.read_faults shelf.old name.now) (H.read_faults shelf.new name.now) }
-
-    ensures unchanged { H.files shelf.new ≡ H.files shelf.old }
-    ensures reads { NeverFalls (H.read_faults shelf.old) (H.read_faults shelf.new) }
-    ensures writes { NeverFalls (H.write_faults shelf.old) (H.write_faults shelf.new) }
+// How many bytes stand before the first line feed, or how many there are.
+fn bytes_to_feed(bytes: &[u8]) -> usize
+    ensures { result ≡ position_or_len is_line_feed bytes.now }
 {
-    let mut byte = [0; 1];
-    Ok(shelf.read_at(name, at, &mut byte)? > 0)
+    first_feed(bytes).unwrap_or(bytes.len())
 }

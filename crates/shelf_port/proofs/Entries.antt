@@ -9,16 +9,13 @@ use Rattle.std.specs.Ordering.{nat_cmp, eq_by_cmp}
 use Rattle.std.specs.Cmp.Lexicographic.{slice_cmp, texts_ties}
 use Rattle.std.specs.FinMap.{get, insert, find, from_entries, from_entries_push, get-insert, get-from_entries, same_map, slice_cmp-IsAntisymmetric, nat_cmp-IsAntisymmetric}
 use Rattle.shelf_port.specs.Memory.{entries_of, files_of_list, is_named}
+use Rattle.shelf_port.proofs.Told.{cond_twice}
 
 abbrev names : List ℕ → List ℕ → Bool
 names = eq_by_cmp (slice_cmp nat_cmp)
 
 same_names : (q name : List ℕ) → names q name ≡ true → q ≡ name
 same_names q name e = (bytes_eq-Decides q name).0 (texts_ties q name ∙ e)
-
-cond_twice : {A : Type 0} (b : Bool) (x y z : A) → cond b x (cond b y z) ≡ cond b x z
-cond_twice true x y z = refl
-cond_twice false x y z = refl
 
 cond_swap : {A : Type 0} (a b : Bool) (x y z : A) → (a ≡ true → b ≡ true → ⊥) → cond a x (cond b y z) ≡ cond b y (cond a x z)
 cond_swap true true x y z apart = absurd (apart refl refl)

@@ -41,7 +41,8 @@ bytes_of-insert files name bytes =
     ap (λ found. unwrap_or found []) (get-insert nat_list_cmp_total files name bytes name)
     ∙ ap (λ b. unwrap_or (cond b (Some bytes) (get files name)) []) (same_name name)
 
-cond_twice : {A : Type 0} (b : Bool) (x y z : A) → cond b x (cond b y z) ≡ cond b x z
+-- of two tests that are the same the first decides
+pub cond_twice : {A : Type 0} (b : Bool) (x y z : A) → cond b x (cond b y z) ≡ cond b x z
 cond_twice true x y z = refl
 cond_twice false x y z = refl
 

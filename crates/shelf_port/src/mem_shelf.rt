@@ -5,7 +5,7 @@ ghost use Rattle.std.specs.List.{position_from};
 ghost use Rattle.std.specs.FinMap.{get, insert};
 ghost use Rattle.shelf_port.specs.Files.{Files, bytes_of, with_file, with_added, HasFile, Reads, Rose, NeverFalls, CountsOnly};
 ghost use Rattle.shelf_port.specs.Memory.{files_of_list, is_named};
-ghost use Rattle.shelf_port.specs.Plan.{NextFails, after_call};
+ghost use Rattle.shelf_port.specs.Plan.{IsPlanned, NextFails, after_call, IsInPieces};
 
 use crate::fault::ShelfFault;
 use crate::plan::{CallPlan, copy_from};
@@ -47,9 +47,7 @@ impl MemShelf {
     pub fn in_pieces(self, width: usize) -> Self
         requires { 0 < width }
         ensures files { files_of result ≡ files_of self }
-        ensures width { (plan_of result).width ≡ width }
-        ensures failing { (plan_of result).failing ≡ (plan_of self).failing }
-        ensures made { (plan_of result).made ≡ (plan_of self).made }
+        ensures plan { IsInPieces width (plan_of self) (plan_of result) }
         ensures reads { read_faults_of result ≡ read_faults_of self }
         ensures writes { write_faults_of result ≡ write_faults_of self }
     {
@@ -178,14 +176,9 @@ impl Shelf for MemShelf {
         ensures reads { NeverFalls (λ _. read_faults_of self.old) (λ _. read_faults_of self.new) }
         ensures writes { NeverFalls (λ _. write_faults_of self.old) (λ _. write_faults_of self.new) }
 
-        // A fault is counted once, and no call counts another.
-        ensures counts_only { CountsOnly (IsErrOf result ShelfFault.Failed)
-            (write_faults_of self.old) (write_faults_of self.new) }
+        ensures planned { IsPlanned (IsErrOf result ShelfFault.Failed)
+            (write_faults_of self.old) (write_faults_of self.new) (plan_of self.old) (plan_of self.new) }
         ensures same_reads { read_faults_of self.new ≡ read_faults_of self.old }
-
-        // It fails exactly where it is one of the calls that are to fail.
-        ensures planned { IsErrOf result ShelfFault.Failed ↔ NextFails (plan_of self.old) }
-        ensures plan { plan_of self.new ≡ after_call (plan_of self.old) }
     {
         if self.plan.next_fails() {
             self.write_faults = self.write_faults.saturating_add(1);
@@ -206,14 +199,9 @@ impl Shelf for MemShelf {
         ensures reads { NeverFalls (λ _. read_faults_of self.old) (λ _. read_faults_of self.new) }
         ensures writes { NeverFalls (λ _. write_faults_of self.old) (λ _. write_faults_of self.new) }
 
-        // A fault is counted once, and no call counts another.
-        ensures counts_only { CountsOnly (IsErrOf result ShelfFault.Failed)
-            (write_faults_of self.old) (write_faults_of self.new) }
+        ensures planned { IsPlanned (IsErrOf result ShelfFault.Failed)
+            (write_faults_of self.old) (write_faults_of self.new) (plan_of self.old) (plan_of self.new) }
         ensures same_reads { read_faults_of self.new ≡ read_faults_of self.old }
-
-        // It fails exactly where it is one of the calls that are to fail.
-        ensures planned { IsErrOf result ShelfFault.Failed ↔ NextFails (plan_of self.old) }
-        ensures plan { plan_of self.new ≡ after_call (plan_of self.old) }
         ensures width { IfOk result (λ n. n ≤ (plan_of self.old).width) }
     {
         if self.plan.next_fails() {

@@ -1,7 +1,7 @@
 // An input and an output in memory.
-ghost use Rattle.std.specs.Prelude.{◌≡◌, ◌<◌, ◌≤◌, ◌↔◌, [], length, take, drop, Some, IfOk, OnOk, OnErr, IsErrOf};
-ghost use Rattle.shelf_port.specs.Files.{Rose, CountsOnly};
-ghost use Rattle.shelf_port.specs.Plan.{NextFails, after_call};
+ghost use Rattle.std.specs.Prelude.{◌≡◌, ◌<◌, ◌≤◌, [], length, take, drop, Some, IfOk, OnOk, OnErr, IsErrOf};
+ghost use Rattle.shelf_port.specs.Files.{Rose};
+ghost use Rattle.shelf_port.specs.Plan.{IsPlanned, IsInPieces};
 ghost use Rattle.shelf_port.specs.Streams.{with_front, with_back, no_refusals, taken, refused};
 
 use crate::fault::{SinkFault, SourceFault};
@@ -41,9 +41,7 @@ impl MemSource {
     pub fn in_pieces(self, width: usize) -> Self
         requires { 0 < width }
         ensures left { left_of result ≡ left_of self }
-        ensures width { (input_plan result).width ≡ width }
-        ensures failing { (input_plan result).failing ≡ (input_plan self).failing }
-        ensures made { (input_plan result).made ≡ (input_plan self).made }
+        ensures plan { IsInPieces width (input_plan self) (input_plan result) }
         ensures faults { read_faults_of result ≡ read_faults_of self }
     {
         MemSource {
@@ -75,13 +73,8 @@ impl Source for MemSource {
             Rose (read_faults_of self.old) (read_faults_of self.new) }
         ensures counts { read_faults_of self.old ≤ read_faults_of self.new }
 
-        // A fault is counted once, and no call counts another.
-        ensures counts_only { CountsOnly (IsErrOf result SourceFault.Failed)
-            (read_faults_of self.old) (read_faults_of self.new) }
-
-        // It fails exactly where it is one of the calls that are to fail.
-        ensures planned { IsErrOf result SourceFault.Failed ↔ NextFails (input_plan self.old) }
-        ensures plan { input_plan self.new ≡ after_call (input_plan self.old) }
+        ensures planned { IsPlanned (IsErrOf result SourceFault.Failed)
+            (read_faults_of self.old) (read_faults_of self.new) (input_plan self.old) (input_plan self.new) }
         ensures width { IfOk result (λ n. n ≤ (input_plan self.old).width) }
     {
         if self.plan.next_fails() {
@@ -126,9 +119,7 @@ impl MemSink {
     pub fn in_pieces(self, width: usize) -> Self
         requires { 0 < width }
         ensures written { written_to result ≡ written_to self }
-        ensures width { (output_plan result).width ≡ width }
-        ensures failing { (output_plan result).failing ≡ (output_plan self).failing }
-        ensures made { (output_plan result).made ≡ (output_plan self).made }
+        ensures plan { IsInPieces width (output_plan self) (output_plan result) }
         ensures faults { write_faults_of result ≡ write_faults_of self }
         ensures refusals { refusals_of result ≡ refusals_of self }
     {
@@ -171,13 +162,8 @@ impl Sink for MemSink {
         ensures taken { OnOk result (refusals_of self.new ≡ taken (refusals_of self.old)) }
         ensures refused { OnErr result (refusals_of self.new ≡ refused (refusals_of self.old)) }
 
-        // A fault is counted once, and no call counts another.
-        ensures counts_only { CountsOnly (IsErrOf result SinkFault.Failed)
-            (write_faults_of self.old) (write_faults_of self.new) }
-
-        // It fails exactly where it is one of the calls that are to fail.
-        ensures planned { IsErrOf result SinkFault.Failed ↔ NextFails (output_plan self.old) }
-        ensures plan { output_plan self.new ≡ after_call (output_plan self.old) }
+        ensures planned { IsPlanned (IsErrOf result SinkFault.Failed)
+            (write_faults_of self.old) (write_faults_of self.new) (output_plan self.old) (output_plan self.new) }
         ensures width { IfOk result (λ n. n ≤ (output_plan self.old).width) }
     {
         if self.plan.next_fails() {

@@ -12,7 +12,7 @@ pub(crate) struct CallPlan {
 }
 
 impl CallPlan {
-    ghost use Rattle.shelf_port.specs.Plan.{NextFails, after_call};
+    ghost use Rattle.shelf_port.specs.Plan.{NextFails, after_call, IsInPieces};
 
     /// The calls with these numbers fail, counted from 1. One call moves all that it is asked to.
     pub(crate) fn new(failing: Vec<u64>) -> Self
@@ -29,9 +29,7 @@ impl CallPlan {
     /// The same calls fail, and one call moves at most so many bytes.
     pub(crate) fn in_pieces(self, width: usize) -> Self
         requires { 0 < width }
-        ensures failing { result.failing ≡ self.failing }
-        ensures made { result.made ≡ self.made }
-        ensures width { result.width ≡ width }
+        ensures { IsInPieces width self result }
     {
         CallPlan {
             failing: self.failing,
