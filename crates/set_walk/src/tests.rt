@@ -3,6 +3,7 @@ ghost use Rattle.instance_store.specs.Small.{IsSmall, AreSmall};
 ghost use Rattle.instance_store.specs.Parts.{site_row_ids, cust_row_ids};
 
 use super::*;
+use example_instances::{customer, site, two_sites};
 use instance_store::{CustId, CustRow, Instance, LaneRow, NoMemory, SiteId, SiteRow};
 use location_terms::{MAX_AMOUNT, MAX_CUSTOMERS};
 use std::alloc::Global;
@@ -109,37 +110,7 @@ fn all_twelve_sites_open(rt: HostRuntime) -> Result<(), Fail> {
 #[test]
 fn one_site_serves_all(rt: HostRuntime) -> Result<(), Fail> {
     let alloc = rt.alloc();
-    let near = LaneRow::from_slice(alloc, &[Some(1_000_000), Some(2_000_000), Some(9_000_000)])?;
-    let far = LaneRow::from_slice(alloc, &[Some(8_000_000), Some(7_000_000), Some(1_000_000)])?;
-    let sites = vec![in alloc;
-        SiteRow {
-            id: SiteId::new(1),
-            fixed: 10_000_000,
-            cap: None,
-            lanes: near
-        },
-        SiteRow {
-            id: SiteId::new(2),
-            fixed: 12_000_000,
-            cap: None,
-            lanes: far
-        },
-    ]?;
-    let custs = vec![in alloc;
-        CustRow {
-            id: CustId::new(1),
-            demand: 0
-        },
-        CustRow {
-            id: CustId::new(2),
-            demand: 0
-        },
-        CustRow {
-            id: CustId::new(3),
-            demand: 0
-        },
-    ]?;
-    let inst = Instance::from_parts(alloc, 0, 3_000, 3, 4, custs, sites)?;
+    let inst = two_sites(alloc, 0, 3_000)?;
     expect_plan(
         &rt,
         alloc,
@@ -156,30 +127,8 @@ fn each_site_serves_its_customer(rt: HostRuntime) -> Result<(), Fail> {
     let alloc = rt.alloc();
     let east = LaneRow::from_slice(alloc, &[Some(7), Some(1)])?;
     let west = LaneRow::from_slice(alloc, &[Some(2), Some(8)])?;
-    let sites = vec![in alloc;
-        SiteRow {
-            id: SiteId::new(4),
-            fixed: 2,
-            cap: None,
-            lanes: east
-        },
-        SiteRow {
-            id: SiteId::new(9),
-            fixed: 3,
-            cap: None,
-            lanes: west
-        },
-    ]?;
-    let custs = vec![in alloc;
-        CustRow {
-            id: CustId::new(5),
-            demand: 1
-        },
-        CustRow {
-            id: CustId::new(6),
-            demand: 1
-        },
-    ]?;
+    let sites = vec![in alloc; site(4, 2, None, east), site(9, 3, None, west)]?;
+    let custs = vec![in alloc; customer(5, 1), customer(6, 1)]?;
     let inst = Instance::from_parts(alloc, 0, 2, 10, 7, custs, sites)?;
     expect_plan(&rt, alloc, &inst, 8, &[4, 9], &[(5, 9), (6, 4)])
 }
@@ -188,20 +137,8 @@ fn each_site_serves_its_customer(rt: HostRuntime) -> Result<(), Fail> {
 fn nothing_costs_nothing(rt: HostRuntime) -> Result<(), Fail> {
     let alloc = rt.alloc();
     let lanes = LaneRow::from_slice(alloc, &[Some(0)])?;
-    let sites = vec![in alloc;
-        SiteRow {
-            id: SiteId::new(1),
-            fixed: 0,
-            cap: None,
-            lanes
-        },
-    ]?;
-    let custs = vec![in alloc;
-        CustRow {
-            id: CustId::new(1),
-            demand: 0
-        },
-    ]?;
+    let sites = vec![in alloc; site(1, 0, None, lanes)]?;
+    let custs = vec![in alloc; customer(1, 0)]?;
     let inst = Instance::from_parts(alloc, 0, 3_000, 2, 2, custs, sites)?;
     expect_plan(&rt, alloc, &inst, 0, &[1], &[(1, 1)])
 }
