@@ -24,10 +24,10 @@ leaf_is (Some l) path d h k =
     let other : l.1 ≡ d = cc in
     ap (λ p. Some (p, l.1)) one ∙ ap (λ e. Some (path, e)) other
 
-one_leaf_is : (l m : Path × Duals) → Some l ≡ Some m → l ≡ m
+pub one_leaf_is : (l m : Path × Duals) → Some l ≡ Some m → l ≡ m
 one_leaf_is l m h = cc
 
-as_many : (t : Node) (path : Path) → length (leaves_below path t) ≡ leaf_total t
+pub as_many : (t : Node) (path : Path) → length (leaves_below path t) ≡ leaf_total t
 as_many t path = omega (arith, leaves_and_splits t path, leaves_and_splits t [])
 
 -- leaf k of two trees, side by side

@@ -28,7 +28,8 @@ low_end_closes (pos b) q (suc t) scaled above within =
     rw one_less (omega (arith, ints, below_ceiling b q t scaled (omega (arith, min-le_left ((b + (q - 1)) / q) MAX_COST))))
 low_end_closes (negsuc b) q (suc t) scaled above within = absurd (omega arith)
 
-ray_above : (bound : ℤ) → BoundCloses bound 0 None → pos 1 ≤ℤ bound
+-- what closes at scale 0 is a ray
+pub ray_above : (bound : ℤ) → BoundCloses bound 0 None → pos 1 ≤ℤ bound
 ray_above bound (inl ray) = ray.1
 ray_above bound (inr scaled) = absurd (omega arith)
 

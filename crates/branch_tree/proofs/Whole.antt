@@ -13,39 +13,32 @@ use Rattle.branch_tree.specs.Begun.{AreSound}
 use Rattle.branch_tree.specs.Walk.{second_child, turned_within, turned, stepped, walked, IsWhole}
 use Rattle.branch_tree.proofs.Ahead.{turned_first, turned_second, turned_root}
 
--- a walk over a tree comes to what follows the tree
-walked_children : (first second : Decision) (path : Path) (a b : Node) (es : List Entry) → second_child first ≡ Some second → second_child second ≡ None
-    → ((p : Path) (xs : List Entry) → walked (Some p) (flat a ++ xs) ≡ walked (turned p) xs)
-    → ((p : Path) (xs : List Entry) → walked (Some p) (flat b ++ xs) ≡ walked (turned p) xs)
-    → walked (Some (path ++ first ∷ [])) ((flat a ++ flat b) ++ es) ≡ walked (turned path) es
-walked_children first second path a b es h k on_a on_b =
-    ap (walked (Some (path ++ first ∷ []))) (append_assoc (flat a) (flat b) es)
-    ∙ on_a (path ++ first ∷ []) (flat b ++ es)
-    ∙ ap (λ o. walked o (flat b ++ es)) (turned_first first second path h)
-    ∙ on_b (path ++ second ∷ []) es
-    ∙ ap (λ o. walked o es) (turned_second second path k)
+-- what holds of a walk behind a tree holds of it before the tree, if it is so with one entry
+module _ (P : Option Path → List Entry → Type 0) (leaf : (d : Duals) (path : Path) (es : List Entry) → P (turned path) es → P (Some path) (End d ∷ es))
+    (on_site : (s : ℕ) (path : Path) (es : List Entry) → P (Some (path ++ Closed s ∷ [])) es → P (Some path) (SiteSplit s ∷ es))
+    (on_lane : (s c : ℕ) (path : Path) (es : List Entry) → P (Some (path ++ No s c ∷ [])) es → P (Some path) (LaneSplit s c ∷ es)) where
+  both_children : (first second : Decision) (path : Path) (a b : Node) (es : List Entry) → second_child first ≡ Some second → second_child second ≡ None
+      → ((p : Path) (xs : List Entry) → P (turned p) xs → P (Some p) (flat a ++ xs)) → ((p : Path) (xs : List Entry) → P (turned p) xs → P (Some p) (flat b ++ xs))
+      → P (turned path) es → P (Some (path ++ first ∷ [])) ((flat a ++ flat b) ++ es)
+  both_children first second path a b es h k on_a on_b rest =
+      subst (P (Some (path ++ first ∷ []))) (sym (append_assoc (flat a) (flat b) es))
+      (on_a (path ++ first ∷ []) (flat b ++ es)
+      (subst (λ o. P o (flat b ++ es)) (sym (turned_first first second path h))
+      (on_b (path ++ second ∷ []) es
+      (subst (λ o. P o es) (sym (turned_second second path k)) rest))))
 
+  before_tree : (t : Node) (path : Path) (es : List Entry) → P (turned path) es → P (Some path) (flat t ++ es)
+  before_tree (Leaf d) path es h = leaf d path es h
+  before_tree (OnSite s a b) path es h = on_site s path ((flat a ++ flat b) ++ es) (both_children (Closed s) (Opened s) path a b es refl refl (before_tree a) (before_tree b) h)
+  before_tree (OnLane s c a b) path es h = on_lane s c path ((flat a ++ flat b) ++ es) (both_children (No s c) (Yes s c) path a b es refl refl (before_tree a) (before_tree b) h)
+
+-- a walk over a tree comes to what follows the tree
 pub walked-flat : (t : Node) (path : Path) (es : List Entry) → walked (Some path) (flat t ++ es) ≡ walked (turned path) es
-walked-flat (Leaf d) path es = refl
-walked-flat (OnSite s a b) path es = walked_children (Closed s) (Opened s) path a b es refl refl (walked-flat a) (walked-flat b)
-walked-flat (OnLane s c a b) path es = walked_children (No s c) (Yes s c) path a b es refl refl (walked-flat a) (walked-flat b)
+walked-flat t path es = before_tree (λ o xs. walked o xs ≡ walked (turned path) es) (λ d p xs h. h) (λ s p xs h. h) (λ s c p xs h. h) t path es refl
 
 -- a tree, and then what makes the rest whole
-whole_children : (first second : Decision) (path : Path) (a b : Node) (es : List Entry) → second_child first ≡ Some second → second_child second ≡ None
-    → ((p : Path) (xs : List Entry) → IsWhole (turned p) xs → IsWhole (Some p) (flat a ++ xs))
-    → ((p : Path) (xs : List Entry) → IsWhole (turned p) xs → IsWhole (Some p) (flat b ++ xs))
-    → IsWhole (turned path) es → IsWhole (Some (path ++ first ∷ [])) ((flat a ++ flat b) ++ es)
-whole_children first second path a b es h k on_a on_b rest =
-    subst (IsWhole (Some (path ++ first ∷ []))) (sym (append_assoc (flat a) (flat b) es))
-    (on_a (path ++ first ∷ []) (flat b ++ es)
-    (subst (λ o. IsWhole o (flat b ++ es)) (sym (turned_first first second path h))
-    (on_b (path ++ second ∷ []) es
-    (subst (λ o. IsWhole o es) (sym (turned_second second path k)) rest))))
-
 pub whole_after-flat : (t : Node) (path : Path) (es : List Entry) → IsWhole (turned path) es → IsWhole (Some path) (flat t ++ es)
-whole_after-flat (Leaf d) path es h = h
-whole_after-flat (OnSite s a b) path es h = whole_children (Closed s) (Opened s) path a b es refl refl (whole_after-flat a) (whole_after-flat b) h
-whole_after-flat (OnLane s c a b) path es h = whole_children (No s c) (Yes s c) path a b es refl refl (whole_after-flat a) (whole_after-flat b) h
+whole_after-flat = before_tree IsWhole (λ d p xs h. h) (λ s p xs h. h) (λ s c p xs h. h)
 
 -- the nodes of a tree are whole
 pub whole-flat : (t : Node) → IsWhole (Some []) (flat t)

@@ -5,53 +5,11 @@ ghost use Rattle.location_terms.specs.Tree.{StandsOn, nodes_of};
 
 use super::*;
 use dual_value::fits;
-use instance_store::{CustRow, Instance, LaneRow, NoMemory, SiteRow};
-use location_terms::{CustId, SiteId};
+use example_instances::ring;
+use instance_store::{Instance, NoMemory};
+use location_terms::SiteId;
 use std::alloc::Global;
 use std::test::Fail;
-
-// Three sites that cost 2 units each, in millionths, and three customers, each of whom two of the
-// sites serve at no cost.
-fn example(alloc: Global) -> Result<Instance, Fail> {
-    let first = LaneRow::from_slice(alloc, &[Some(0), Some(0), None])?;
-    let second = LaneRow::from_slice(alloc, &[None, Some(0), Some(0)])?;
-    let third = LaneRow::from_slice(alloc, &[Some(0), None, Some(0)])?;
-    let sites = vec![in alloc;
-        SiteRow {
-            id: SiteId::new(1),
-            fixed: 2_000_000,
-            cap: None,
-            lanes: first
-        },
-        SiteRow {
-            id: SiteId::new(2),
-            fixed: 2_000_000,
-            cap: None,
-            lanes: second
-        },
-        SiteRow {
-            id: SiteId::new(3),
-            fixed: 2_000_000,
-            cap: None,
-            lanes: third
-        },
-    ]?;
-    let custs = vec![in alloc;
-        CustRow {
-            id: CustId::new(1),
-            demand: 0
-        },
-        CustRow {
-            id: CustId::new(2),
-            demand: 0
-        },
-        CustRow {
-            id: CustId::new(3),
-            demand: 0
-        },
-    ]?;
-    Ok(Instance::from_parts(alloc, 0, 3_000, 4, 4, custs, sites)?)
-}
 
 // Duals of this scale, with these values of the customers and no other price, which fit.
 fn duals(alloc: Global, inst: &Instance, q: u32, v: [i128; 3]) -> Result<Duals, Fail>
@@ -320,7 +278,7 @@ fn accepts_a_decided_site(alloc: Global, inst: &Instance) -> Result<bool, Fail> 
 #[test]
 fn trees_of_the_example(rt: HostRuntime) -> Result<(), Fail> {
     let alloc = rt.alloc();
-    let inst = example(alloc)?;
+    let inst = ring(alloc)?;
     assert!(rt; shows_the_example(alloc, &inst)?);
     assert!(rt; is_built_node_by_node(alloc, &inst)?);
     assert!(rt; replaces_a_leaf(alloc, &inst)?);
@@ -400,7 +358,7 @@ fn grows_the_example(alloc: Global, inst: &Instance) -> Result<bool, Fail> {
 #[test]
 fn grows_leaf_by_leaf(rt: HostRuntime) -> Result<(), Fail> {
     let alloc = rt.alloc();
-    let inst = example(alloc)?;
+    let inst = ring(alloc)?;
     assert!(rt; grows_the_example(alloc, &inst)?);
     Ok(())
 }

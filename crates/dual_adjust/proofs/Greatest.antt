@@ -16,9 +16,10 @@ use Rattle.lane_order.proofs.Walks.{site_within}
 use Rattle.dual_ascent.specs.Levels.{servers, levels_of}
 use Rattle.dual_adjust.specs.Adjustment.{greatest}
 use Rattle.dual_adjust.specs.Paid.{is_paid, levels_below, greater_of}
+use Rattle.dual_adjust.specs.Walk.{IsLaneWalk}
 use Rattle.dual_adjust.proofs.MoreThanOne.{kept_by}
 use Rattle.dual_adjust.proofs.Violating.{is_server, server_within}
-use Rattle.dual_adjust.proofs.LanesPaid.{IsWalk, site_of, none, paid_rank}
+use Rattle.dual_adjust.proofs.LanesPaid.{site_of, none, paid_rank}
 
 none_greatest : (xs : List ℤ) → ((x : ℤ) → Contains xs x → ⊥) → greatest xs ≡ None
 none_greatest [] empty = refl
@@ -92,7 +93,7 @@ module _ (p : ℕ → Bool) (f : ℕ → ℤ) (at : ℕ → ℕ) where
   pub best_step : (best l : Option ℤ) (k : ℕ) → IsBest k best → l ≡ (if p (at k) then Some (f (at k)) else None) → IsBest (k + 1) (greater_of best l)
   best_step best l k so_far is = subst (λ o. IsBest (k + 1) (greater_of best o)) (sym is) (step_by (p (at k)) best k refl so_far)
 
-module _ (I : Instance) (path : Path) (d : Duals) (order : Order) (j : ℕ) (lanes : List PlacedLane) (walk : IsWalk I order j lanes) where
+module _ (I : Instance) (path : Path) (d : Duals) (order : Order) (j : ℕ) (lanes : List PlacedLane) (walk : IsLaneWalk I order j lanes) where
   abbrev pub pays : ℕ → Bool
   pays i = is_paid I path d i j
 

@@ -1,14 +1,13 @@
 -- What a walk over a customer's lanes from the cheapest on finds out of the sites that the customer pays.
-use Rattle.std.proofs.Common.{◌≡◌, ◌≢◌, ℕ, ◌+◌, ◌*◌, ◌<◌, ◌≤◌, sym, ap, subst, ◌∙◌, inl, inr, arith, Bool, true, false, List, map, length, get_or, Option, Some, None, unwrap_or, ℤ, pos, ◌≤ℤ◌}
-use Rattle.std.specs.Prelude.{◌&&◌, not, All, IfSome, is_some, int_lt, int_le}
-use Rattle.std.specs.List.{list_any}
+use Rattle.std.proofs.Common.{◌≡◌, ◌≢◌, ℕ, ◌+◌, ◌*◌, ◌<◌, ◌≤◌, sym, ap, subst, ◌∙◌, inl, inr, arith, Bool, true, false, List, map, length, get_or, Option, Some, unwrap_or, ℤ, pos, ◌≤ℤ◌}
+use Rattle.std.specs.Prelude.{not, All, IfSome, int_lt, int_le}
 use Rattle.std.specs.List.Sorted.{IsNonDecreasingBy}
 use Rattle.std.proofs.Math.Nat.{mul-le-mul_left}
-use Rattle.std.proofs.lemmas.Bool.{false≢true, cases_Bool, and_parts, and_from, and_right}
+use Rattle.std.proofs.lemmas.Bool.{cases_Bool, and_parts, and_from, and_right}
 use Rattle.std.proofs.lemmas.Int.{ints}
 use Rattle.std.proofs.lemmas.List.{get_or_default}
 use Rattle.location_terms.specs.Instance.{Instance, IsValid, site_at, customer_at, lane}
-use Rattle.location_terms.specs.Box.{Path, is_allowed, is_torn, is_closed, bars_lane, holds_demand}
+use Rattle.location_terms.specs.Box.{Path, is_allowed}
 use Rattle.location_terms.specs.Bound.{Duals, v_at, u_at, level_at}
 use Rattle.location_terms.specs.declared.limits.TheConstants.{MAX_AMOUNT}
 use Rattle.lane_order.specs.declared.order.PlacedLane.{PlacedLane}
@@ -17,33 +16,19 @@ use Rattle.lane_order.specs.Placed.{named}
 use Rattle.lane_order.proofs.Walks.{site_within, placed_is_lane, lane_is_placed}
 use Rattle.lane_order.proofs.Spread.{one_rank}
 use Rattle.dual_ascent.proofs.Tested.{int_lt-less, int_le-less}
+use Rattle.dual_ascent.proofs.Walked.{allowed_has_lane}
 use Rattle.dual_adjust.specs.Slackness.{is_tight, tight_sites, is_violating}
 use Rattle.dual_adjust.specs.Paid.{is_paid, is_paid_tight}
+use Rattle.dual_adjust.specs.Walk.{IsLaneWalk}
 use Rattle.dual_adjust.proofs.MoreThanOne.{IsSeen, seen_same}
 use Rattle.dual_adjust.proofs.Violating.{PaysNamed, two_paid, one_paid, tight_is_named, named_is_tight}
 
--- a customer's lanes in the order of a valid instance
-pub record IsWalk (I : Instance) (order : Order) (j : ℕ) (lanes : List PlacedLane) : Type 0 where
-  pub valid : IsValid I
-  pub order_of : IsOrderOf order I
-  pub within : j < length I.customers
-  pub exact : map (named order.sites) lanes ≡ lanes_to order j
-  pub known : All (λ l. l.site < length order.sites) lanes
-  pub rising : IsNonDecreasingBy (λ l. l.cost) lanes
-
 pub walk_of : {order : Order} {j : ℕ} {lanes : List PlacedLane} (J I : Instance) → J ≡ I → IsValid J → IsOrderOf order I → j < length I.customers → map (named order.sites) lanes ≡ lanes_to order j
-    → All (λ l. l.site < length order.sites) lanes → IsNonDecreasingBy (λ l. l.cost) lanes → IsWalk I order j lanes
+    → All (λ l. l.site < length order.sites) lanes → IsNonDecreasingBy (λ l. l.cost) lanes → IsLaneWalk I order j lanes
 walk_of J I same valid order_of within exact known rising = record { valid = subst IsValid same valid; order_of = order_of; within = within; exact = exact; known = known; rising = rising }
 
 abbrev pub none : PlacedLane
 none = record { cost = 0; site = 0 }
-
-second_of : (a b c d e : Bool) → (a && b && c && d && e) ≡ true → b ≡ true
-second_of a b c d e h = (and_parts a b (and_parts (a && b) c (and_parts (a && b && c) d (and_parts (a && b && c && d) e h).0).0).0).1
-
-some_value : (o : Option ℕ) → is_some o ≡ true → (x : ℕ) × (o ≡ Some x)
-some_value None e = absurd (false≢true e)
-some_value (Some x) e = (x, λ _. Some x)
 
 not_below : (l v : ℤ) → v ≤ℤ l → int_lt l v ≡ false
 not_below l v h = elim (cases_Bool (int_lt l v)) [ inl below ↦ let less = int_lt-less l v below in absurd (omega (arith, ints, h, less)) | inr not ↦ not ]
@@ -52,14 +37,9 @@ module _ (I : Instance) (path : Path) (d : Duals) where
   abbrev lane_at : ℕ → ℕ → Option ℕ
   lane_at i j = lane I (site_at I i).id (customer_at I j).id
 
-  allows_lane : (i j : ℕ) → is_allowed I path (site_at I i) (customer_at I j) ≡ true → (cost : ℕ) × (lane_at i j ≡ Some cost)
-  allows_lane i j allowed =
-      some_value (lane_at i j)
-      (second_of (not (is_torn I path)) (is_some (lane_at i j)) (not (is_closed path (site_at I i))) (not (list_any (bars_lane (site_at I i).id (customer_at I j).id) path)) (holds_demand (site_at I i).cap (customer_at I j).demand) allowed)
-
   -- a site that is paid has a lane
   pub paid_has_lane : (i j : ℕ) → is_paid I path d i j ≡ true → (cost : ℕ) × (lane_at i j ≡ Some cost)
-  paid_has_lane i j paid = allows_lane i j (and_parts (is_allowed I path (site_at I i) (customer_at I j)) (int_lt (level_at I d i j) (v_at d j)) paid).0
+  paid_has_lane i j paid = allowed_has_lane I path i j (and_parts (is_allowed I path (site_at I i) (customer_at I j)) (int_lt (level_at I d i j) (v_at d j)) paid).0
 
   -- a lane that costs as much as the customer's dual is not paid
   pub dear_is_unpaid : (i j cost : ℕ) → lane_at i j ≡ Some cost → v_at d j ≤ℤ pos (d.q * cost) → is_paid I path d i j ≡ false
@@ -71,7 +51,7 @@ module _ (I : Instance) (path : Path) (d : Duals) where
   pub lane_small : IsValid I → (i j cost : ℕ) → lane_at i j ≡ Some cost → cost ≤ MAX_AMOUNT
   lane_small valid i j cost is = subst (λ (o : Option ℕ). IfSome o (λ x. x ≤ MAX_AMOUNT)) is (valid.lanes_small (site_at I i).id (customer_at I j).id)
 
-  module _ (order : Order) (j : ℕ) (lanes : List PlacedLane) (walk : IsWalk I order j lanes) where
+  module _ (order : Order) (j : ℕ) (lanes : List PlacedLane) (walk : IsLaneWalk I order j lanes) where
     abbrev pub pays_tight : ℕ → Bool
     pays_tight i = is_paid_tight I path d i j
 

@@ -1,4 +1,5 @@
 pub mod Slackness
+pub mod Walk
 pub mod Paid
 pub mod Adjustment
 pub mod Present

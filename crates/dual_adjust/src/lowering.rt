@@ -10,6 +10,7 @@ ghost use Rattle.dual_value.specs.Slacks.{AreSlacks};
 ghost use Rattle.dual_adjust.specs.Slackness.{tight_sites, is_violating};
 ghost use Rattle.dual_adjust.specs.Adjustment.{greatest};
 ghost use Rattle.dual_adjust.specs.Paid.{is_paid_tight, levels_below, greater_of};
+ghost use Rattle.dual_adjust.specs.Walk.{IsLaneWalk};
 
 use crate::slackness::{is_tight, paid_level};
 use dual_value::{Duals, PreparedBox};
@@ -54,10 +55,8 @@ fn pays_two_tight(
     requires customer { cust < length boxed.now.instance.customers }
     ensures { result ≡ is_violating boxed.now.instance boxed.now.path duals.now (tight_sites boxed.now.instance boxed.now.path duals.now) cust }
 {
-    // An instance is valid, so that lanes are small.
-    let _custs = boxed.instance().custs();
     let mut paid = false;
-    for lane in order.lanes(cust) {
+    for lane in lanes_of(boxed, order, cust) {
         if is_dear(duals, cust, lane.cost) {
             return false;
         }
@@ -105,10 +104,8 @@ fn level_below(
     requires customer { cust < length boxed.now.instance.customers }
     ensures { result ≡ greatest (levels_below boxed.now.instance boxed.now.path duals.now cust) }
 {
-    // An instance is valid, so that lanes are small.
-    let _custs = boxed.instance().custs();
     let mut greatest = None;
-    for lane in order.lanes(cust) {
+    for lane in lanes_of(boxed, order, cust) {
         if is_dear(duals, cust, lane.cost) {
             return greatest;
         }
@@ -116,6 +113,18 @@ fn level_below(
         greatest = greater(greatest, level);
     }
     greatest
+}
+
+// The customer's lanes, from the cheapest on.
+#[inline(always)]
+fn lanes_of<'a>(boxed: &PreparedBox<'_>, order: &'a LaneOrder, cust: usize) -> &'a [PlacedLane]
+    requires order { IsOrderOf order.now boxed.now.instance }
+    requires customer { cust < length boxed.now.instance.customers }
+    ensures { IsLaneWalk boxed.now.instance order.now cust result.now }
+{
+    // An instance is valid, so that lanes are small.
+    let _custs = boxed.instance().custs();
+    order.lanes(cust)
 }
 
 // The greater of two levels, where one may be missing.

@@ -1,59 +1,16 @@
-ghost use Rattle.std.specs.Prelude.{◌≡◌, IsTrue};
+ghost use Rattle.std.specs.Prelude.{IsTrue};
 ghost use Rattle.std.specs.List.Sorted.{IsStrictlyIncreasing};
 ghost use Rattle.location_terms.specs.Fit.{AreTame, DualsFit};
 ghost use Rattle.lane_order.specs.Order.{IsOrderOf};
 
 use super::*;
 use dual_value::{Duals, Path, PreparedBox, bound, tame};
-use instance_store::{CustId, CustRow, Instance, LaneRow, NoMemory, SiteId, SiteRow};
+use example_instances::{customer, shared_customer, site, two_sites};
+use instance_store::{CustId, Instance, LaneRow, NoMemory, SiteId};
 use lane_order::LaneOrder;
 use location_terms::Decision;
 use std::alloc::Global;
 use std::test::Fail;
-
-// Two sites that serve the first customer for nothing, and each one of the others.
-fn shared(alloc: Global) -> Result<Instance, NoMemory> {
-    let first = LaneRow::from_slice(alloc, &[Some(0), Some(0), Some(10_000_000)])?;
-    let second = LaneRow::from_slice(alloc, &[Some(0), Some(10_000_000), Some(0)])?;
-    let sites = vec![in alloc;
-        SiteRow {
-            id: SiteId::new(1),
-            fixed: 2_000_000,
-            cap: None,
-            lanes: first
-        },
-        SiteRow {
-            id: SiteId::new(2),
-            fixed: 2_000_000,
-            cap: None,
-            lanes: second
-        },
-    ]?;
-    let custs = vec![in alloc; customer(1, 0), customer(2, 0), customer(3, 0)]?;
-    Instance::from_parts(alloc, 0, 2, 3, 4, custs, sites)
-}
-
-// Two sites and three customers, none of which pays both where the ascent ends.
-fn plain(alloc: Global) -> Result<Instance, NoMemory> {
-    let near = LaneRow::from_slice(alloc, &[Some(1_000_000), Some(2_000_000), Some(9_000_000)])?;
-    let far = LaneRow::from_slice(alloc, &[Some(8_000_000), Some(7_000_000), Some(1_000_000)])?;
-    let sites = vec![in alloc;
-        SiteRow {
-            id: SiteId::new(1),
-            fixed: 10_000_000,
-            cap: None,
-            lanes: near
-        },
-        SiteRow {
-            id: SiteId::new(2),
-            fixed: 12_000_000,
-            cap: None,
-            lanes: far
-        },
-    ]?;
-    let custs = vec![in alloc; customer(1, 0), customer(2, 0), customer(3, 0)]?;
-    Instance::from_parts(alloc, 0, 2, 3, 4, custs, sites)
-}
 
 // Four sites, three of which have a capacity, and six customers.
 fn priced(alloc: Global) -> Result<Instance, NoMemory> {
@@ -68,30 +25,10 @@ fn priced(alloc: Global) -> Result<Instance, NoMemory> {
     )?;
     let fourth = LaneRow::from_slice(alloc, &[Some(2), Some(2), Some(9), Some(9), Some(0), None])?;
     let sites = vec![in alloc;
-        SiteRow {
-            id: SiteId::new(1),
-            fixed: 8,
-            cap: Some(11),
-            lanes: first
-        },
-        SiteRow {
-            id: SiteId::new(2),
-            fixed: 6,
-            cap: None,
-            lanes: second
-        },
-        SiteRow {
-            id: SiteId::new(3),
-            fixed: 2,
-            cap: Some(13),
-            lanes: third
-        },
-        SiteRow {
-            id: SiteId::new(4),
-            fixed: 4,
-            cap: Some(11),
-            lanes: fourth
-        },
+        site(1, 8, Some(11), first),
+        site(2, 6, None, second),
+        site(3, 2, Some(13), third),
+        site(4, 4, Some(11), fourth),
     ]?;
     let custs = vec![in alloc;
         customer(1, 1),
@@ -102,15 +39,6 @@ fn priced(alloc: Global) -> Result<Instance, NoMemory> {
         customer(6, 1),
     ]?;
     Instance::from_parts(alloc, 0, 4, 5, 7, custs, sites)
-}
-
-fn customer(id: u32, demand: u64) -> CustRow
-    ensures { result ≡ record { id = id; demand = demand } }
-{
-    CustRow {
-        id: CustId::new(id),
-        demand,
-    }
 }
 
 fn path(alloc: Global, steps: &[Decision]) -> Result<Path, NoMemory> {
@@ -378,7 +306,7 @@ fn rises_once_copied(
 
 #[test]
 fn adjusts(rt: HostRuntime) -> Result<(), Fail> {
-    let inst = shared(rt.alloc())?;
+    let inst = shared_customer(rt.alloc())?;
     assert!(rt; adjusts_shared(rt.alloc(), &inst)?);
     assert!(rt; passes_over_unknown(rt.alloc(), &inst)?);
     Ok(())
@@ -386,7 +314,7 @@ fn adjusts(rt: HostRuntime) -> Result<(), Fail> {
 
 #[test]
 fn leaves_what_gains_nothing(rt: HostRuntime) -> Result<(), Fail> {
-    let inst = plain(rt.alloc())?;
+    let inst = two_sites(rt.alloc(), 0, 2)?;
     assert!(rt; leaves_plain(rt.alloc(), &inst)?);
     Ok(())
 }

@@ -15,7 +15,8 @@ use Rattle.dual_ascent.specs.declared.looking.Offer.TheVariants.{UpTo}
 use Rattle.dual_ascent.specs.declared.looking.Outlook.TheVariants.{Rises, Blocked}
 use Rattle.dual_ascent.proofs.Tested.{int_le-less, int_le-not}
 use Rattle.dual_ascent.proofs.Measured.{Lets, Stops, rise_is, blocked_by, free_from, blocked_alone}
-use Rattle.dual_ascent.proofs.Walked.{IsWalk, IsPassed, passed_more, served_is_placed}
+use Rattle.dual_ascent.specs.Walk.{IsLaneWalk}
+use Rattle.dual_ascent.proofs.Walked.{IsPassed, passed_more, served_is_placed}
 
 -- a site that is reached and spent blocks the customer
 pub blocked_by_spent : (I : Instance) (path : Path) (d : Duals) (j i : ℕ) → IsReached I path d j i → is_spent I path d i ≡ true → is_blocked I path d j ≡ true
@@ -90,7 +91,7 @@ module _ (I : Instance) (path : Path) (d : Duals) (j : ℕ) where
       let free : is_blocked I path d j ≡ false = free_from I path d j stopped.site stopped.within stopped.stops.0 (λ k b allowed under. (lets k (all k b allowed)).fresh allowed under) in
       (free, rise_is I path d j free r (λ i b allowed. (lets i (all i b allowed)).lets allowed) stopped.site stopped.within stopped.stops)
 
-  module _ (lanes : List PlacedLane) (walk : IsWalk I j lanes) where
+  module _ (lanes : List PlacedLane) (walk : IsLaneWalk I j lanes) where
     pub none_passed : IsLeastOver (IsPassed lanes 0) None
     none_passed i (m, b, at) = absurd (omega (arith, b))
 

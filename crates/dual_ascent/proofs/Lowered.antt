@@ -24,7 +24,8 @@ use Rattle.dual_ascent.proofs.Rise.{rise, rise_positive, rise_leaves}
 use Rattle.dual_ascent.proofs.Raised.{raised_free}
 use Rattle.dual_ascent.proofs.Measured.{slack_falls, slack_same}
 use Rattle.dual_ascent.proofs.Sized.{slack_size}
-use Rattle.dual_ascent.proofs.Walked.{IsWalk, unserved_barred}
+use Rattle.dual_ascent.specs.Walk.{IsLaneWalk}
+use Rattle.dual_ascent.proofs.Walked.{unserved_barred}
 
 past_value : (v : ℤ) (a b c : ℕ) → v <ℤ pos a → a ≤ b → v <ℤ pos (b + c)
 past_value v a b c h k = omega (arith, ints)
@@ -64,7 +65,7 @@ module _ (I : Instance) (path : Path) (d : Duals) (valid : IsValid I) (tame : Ar
   amount i = slack_of I path d i -ℤ slack_of I path (raised I path d j) i
 
   -- no lane from the first on that alone costs more than the dual is reached
-  pub past_unreached : (lanes : List PlacedLane) → IsWalk I j lanes → (k m : ℕ) (e f : PlacedLane) → k ≤ m → m < length lanes → v_at d j <ℤ pos (d.q * (get_or lanes k e).cost) → IsReached I path d j (get_or lanes m f).site → ⊥
+  pub past_unreached : (lanes : List PlacedLane) → IsLaneWalk I j lanes → (k m : ℕ) (e f : PlacedLane) → k ≤ m → m < length lanes → v_at d j <ℤ pos (d.q * (get_or lanes k e).cost) → IsReached I path d j (get_or lanes m f).site → ⊥
   past_unreached lanes walk k m e f later inside over reached =
       let i = (get_or lanes m f).site in
       let cost : unwrap_or (lane I (site_at I i).id (customer_at I j).id) 0 ≡ (get_or lanes m f).cost = ap (λ (o : Option ℕ). unwrap_or o 0) (walk.is_lane m f inside) in
@@ -76,7 +77,7 @@ module _ (I : Instance) (path : Path) (d : Duals) (valid : IsValid I) (tame : Ar
 
   module _ (order : Order) (of : IsOrderOf order I) (lanes : List PlacedLane) (exact : map (named order.sites) lanes ≡ lanes_to order j) (placed : All (λ l. l.site < length order.sites) lanes) (old : List ℤ) (are : AreSlacks I path d old) where
     abbrev Walk : Type 0
-    Walk = IsWalk I j lanes
+    Walk = IsLaneWalk I j lanes
 
     not_reached_past : (i : ℕ) → i < length I.sites → (IsReached I path d j i → ⊥) → amount i ≡ pos 0
     not_reached_past i b not_reached = omega (arith, ints, unreached_stays i b not_reached)

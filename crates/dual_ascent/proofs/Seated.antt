@@ -21,7 +21,8 @@ use Rattle.dual_ascent.proofs.Measured.{picked_all}
 use Rattle.dual_ascent.proofs.Ceiling.{places_below}
 use Rattle.dual_ascent.proofs.Looked.{cases_le}
 use Rattle.dual_ascent.proofs.Sized.{level_size}
-use Rattle.dual_ascent.proofs.Walked.{IsWalk, IsPassed, passed_more, served_is_placed}
+use Rattle.dual_ascent.specs.Walk.{IsLaneWalk}
+use Rattle.dual_ascent.proofs.Walked.{IsPassed, passed_more, served_is_placed}
 
 between : (o : Option ℤ) (l : ℤ) → MatchOption o ⊥ (λ m. m ≤ℤ l) → MatchOption o ⊤ (λ m. l ≤ℤ m) → o ≡ Some l
 between None l h k = absurd h
@@ -69,7 +70,7 @@ module _ (I : Instance) (path : Path) (d : Duals) (j : ℕ) where
       let below : MatchOption (least_level I path d j) ⊥ (λ m. m ≤ℤ l) = subst (λ x. MatchOption (least_level I path d j) ⊥ (λ m. m ≤ℤ x)) level.is (least_below level.site level.within level.allowed) in
       sym (between (least_level I path d j) l below (least_has (λ m. l ≤ℤ m) (λ i b allowed. low i (all i b allowed) allowed)))
 
-  module _ (lanes : List PlacedLane) (walk : IsWalk I j lanes) where
+  module _ (lanes : List PlacedLane) (walk : IsLaneWalk I j lanes) where
     pub none_seen : IsLeastOf (IsPassed lanes 0) None
     none_seen i (m, b, at) = absurd (omega (arith, b))
 

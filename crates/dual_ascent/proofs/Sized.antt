@@ -1,8 +1,8 @@
 -- The sizes of values, levels and slacks of fit duals.
-use Rattle.std.proofs.Common.{◌≡◌, ℕ, ◌+◌, ◌*◌, ◌<◌, ◌≤◌, ap, ◌∙◌, arith, length, Option, Some, None, unwrap_or, ℤ, pos}
+use Rattle.std.proofs.Common.{◌≡◌, ℕ, ◌+◌, ◌*◌, ◌<◌, ◌≤◌, ap, ◌∙◌, arith, length, Option, Some, unwrap_or, ℤ, pos}
 use mir.Syntax.{w128}
 use mir.Val.{to_z, of_z}
-use Rattle.std.specs.Prelude.{IfSome, unsigned_abs}
+use Rattle.std.specs.Prelude.{unsigned_abs}
 use Rattle.std.proofs.lemmas.Nat.{mul-le}
 use Rattle.location_terms.specs.Instance.{Instance, IsValid, site_at, customer_at, lane}
 use Rattle.location_terms.specs.Box.{Path}
@@ -12,10 +12,7 @@ use Rattle.location_terms.specs.declared.limits.TheConstants.{MAX_AMOUNT, MAX_SC
 use Rattle.dual_value.specs.declared.bounds.TheConstants.{MAX_SLACK}
 use Rattle.dual_value.proofs.Sizes.{size_pos, kept}
 use Rattle.dual_value.proofs.Payments.{value_small, level_small, left_small}
-
-cost_within : (o : Option ℕ) (n : ℕ) → IfSome o (λ c. c ≤ n) → unwrap_or o 0 ≤ n
-cost_within None n h = omega arith
-cost_within (Some c) n h = h
+use Rattle.dual_ascent.proofs.Tame.{cost_within}
 
 -- what `level` gives of a lane is its level
 pub level_is : (I : Instance) (d : Duals) (i j q cost u demand : ℕ) (l : ℤ) → l ≡ pos (q * cost + u * demand) → q ≡ d.q → u ≡ u_at d i → demand ≡ (customer_at I j).demand → lane I (site_at I i).id (customer_at I j).id ≡ Some cost → l ≡ level_at I d i j

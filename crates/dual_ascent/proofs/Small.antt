@@ -14,7 +14,7 @@ use Rattle.dual_ascent.specs.Ascent.{IsAscended}
 use Rattle.dual_ascent.specs.Kept.{Keeps}
 use Rattle.dual_ascent.proofs.Ceiling.{HasRoom, IsUnder, paid_at_least}
 use Rattle.dual_ascent.proofs.Ends.{ascended_under}
-use Rattle.dual_ascent.proofs.Tame.{cost_small}
+use Rattle.dual_ascent.proofs.Tame.{cost_within}
 use Rattle.dual_ascent.proofs.Results.{all_known}
 use Rattle.dual_value.proofs.Zeros.{zero_v, zero_u}
 use Rattle.dual_ascent.proofs.Plain.{zeros_are_tame, plain_keeps}
@@ -37,7 +37,7 @@ module _ (I : Instance) (path : Path) where
 
   module _ (valid : IsValid I) where
     lane_small : (i j : ℕ) → unwrap_or (lane I (site_at I i).id (customer_at I j).id) 0 ≤ MAX_AMOUNT
-    lane_small i j = cost_small (lane I (site_at I i).id (customer_at I j).id) MAX_AMOUNT (valid.lanes_small (site_at I i).id (customer_at I j).id)
+    lane_small i j = cost_within (lane I (site_at I i).id (customer_at I j).id) MAX_AMOUNT (valid.lanes_small (site_at I i).id (customer_at I j).id)
 
     zeros_have_room : HasRoom I path (pos (2 * MAX_AMOUNT)) (zeros I 1)
     zeros_have_room i j b c =

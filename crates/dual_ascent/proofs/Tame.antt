@@ -16,9 +16,9 @@ use Rattle.dual_ascent.proofs.Rounds.{AreKnown, ascended_is_risen}
 use Rattle.dual_ascent.proofs.Ceiling.{HasRoom, IsUnder}
 use Rattle.dual_ascent.proofs.Ends.{ascended_under, ascent_ends}
 
-pub cost_small : (o : Option ℕ) (n : ℕ) → IfSome o (λ c. c ≤ n) → unwrap_or o 0 ≤ n
-cost_small None n h = omega arith
-cost_small (Some c) n h = h
+pub cost_within : (o : Option ℕ) (n : ℕ) → IfSome o (λ c. c ≤ n) → unwrap_or o 0 ≤ n
+cost_within None n h = omega arith
+cost_within (Some c) n h = h
 
 within_scale : (q c : ℕ) → q ≤ MAX_SCALE → c ≤ MAX_AMOUNT → q * c ≤ MAX_SCALE * MAX_AMOUNT
 within_scale q c h k = mul-le q c MAX_SCALE MAX_AMOUNT h k
@@ -33,7 +33,7 @@ module _ (I : Instance) (path : Path) (valid : IsValid I) (d : Duals) (tame : Ar
   pub tame_has_room : HasRoom I path (pos MAX_VALUE) d
   tame_has_room i j b c =
       let priced : i < length d.u = omega (arith, b, tame.fit.of_instance.sites) in
-      let scaled : d.q * unwrap_or (lane I (site_at I i).id (customer_at I j).id) 0 ≤ MAX_SCALE * MAX_AMOUNT = within_scale d.q (unwrap_or (lane I (site_at I i).id (customer_at I j).id) 0) tame.fit.in_limits.scale (cost_small (lane I (site_at I i).id (customer_at I j).id) MAX_AMOUNT (valid.lanes_small (site_at I i).id (customer_at I j).id)) in
+      let scaled : d.q * unwrap_or (lane I (site_at I i).id (customer_at I j).id) 0 ≤ MAX_SCALE * MAX_AMOUNT = within_scale d.q (unwrap_or (lane I (site_at I i).id (customer_at I j).id) 0) tame.fit.in_limits.scale (cost_within (lane I (site_at I i).id (customer_at I j).id) MAX_AMOUNT (valid.lanes_small (site_at I i).id (customer_at I j).id)) in
       let price : u_at d i * (customer_at I j).demand ≤ MAX_TAME = tame.demand_prices i 0 priced j _ c in
       let fixed : d.q * (site_at I i).fixed ≤ MAX_SCALE * MAX_AMOUNT = within_scale d.q (site_at I i).fixed tame.fit.in_limits.scale (valid.fixed_small i _ b) in
       let nu = abs_below d.nu MAX_TAME tame.count_price in (

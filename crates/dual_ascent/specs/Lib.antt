@@ -3,3 +3,4 @@ pub mod Ascent
 pub mod Kept
 pub mod Work
 pub mod Steps
+pub mod Walk

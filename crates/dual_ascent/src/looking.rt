@@ -1,13 +1,15 @@
 //! How far a customer's dual rises, or what blocks it: one look at its lanes from the cheapest on.
-ghost use Rattle.std.specs.Prelude.{◌≡◌, ◌↔◌, ◌*◌, ◌<◌, ◌≤◌, IsTrue, MatchOption, Some, length, pos, ◌+ℤ◌, ◌≤ℤ◌, unsigned_abs, int_le, ◌||◌};
+ghost use Rattle.std.specs.Prelude.{◌≡◌, ◌↔◌, ◌*◌, ◌<◌, ◌≤◌, IsTrue, All, MatchOption, Some, length, map, pos, ◌+ℤ◌, ◌≤ℤ◌, unsigned_abs, int_le, ◌||◌};
 ghost use Rattle.location_terms.specs.Instance.{IsValid, site_at, customer_at, lane as lane_cost};
 ghost use Rattle.location_terms.specs.Box.{is_opened};
 ghost use Rattle.location_terms.specs.Fit.{DualsFit};
 ghost use Rattle.location_terms.specs.declared.limits.TheConstants.{MAX_AMOUNT, MAX_VALUE};
-ghost use Rattle.lane_order.specs.Order.{IsOrderOf};
+ghost use Rattle.lane_order.specs.Order.{IsOrderOf, lanes_to};
+ghost use Rattle.lane_order.specs.Placed.{named};
 ghost use Rattle.dual_value.specs.Slacks.{AreSlacks};
 ghost use Rattle.dual_ascent.specs.Ascent.{lesser};
 ghost use Rattle.dual_ascent.specs.Steps.{IsOffer, IsOutlook, shown};
+ghost use Rattle.dual_ascent.specs.Walk.{IsLaneWalk};
 
 use dual_value::{Duals, PreparedBox, level};
 use lane_order::{LaneOrder, PlacedLane};
@@ -41,6 +43,23 @@ pub(crate) fn scaled(q: u32, cost: u64) -> i128
     i128::from(q) * i128::from(cost)
 }
 
+/// The lanes to the customer at place `cust`, from the cheapest on.
+#[inline(always)]
+pub(crate) fn lanes_of<'a>(
+    boxed: &PreparedBox<'_>,
+    order: &'a LaneOrder,
+    cust: usize,
+) -> &'a [PlacedLane]
+    requires valid { IsValid boxed.now.instance }
+    requires order { IsOrderOf order.now boxed.now.instance }
+    requires customer { cust < length boxed.now.instance.customers }
+    ensures walk { IsLaneWalk boxed.now.instance cust result.now }
+    ensures exact { map (named order.now.sites) result.now ≡ lanes_to order.now cust }
+    ensures known { All (λ lane. lane.site < length order.now.sites) result.now }
+{
+    order.lanes(cust)
+}
+
 /// How far the dual of the customer at place `cust` rises, or what blocks it.
 pub(crate) fn look(
     boxed: &PreparedBox<'_>,
@@ -59,7 +78,7 @@ pub(crate) fn look(
     let value = duals.v(cust);
     let q = duals.q();
     let demand = boxed.instance().demand(cust);
-    let lanes = order.lanes(cust);
+    let lanes = lanes_of(boxed, order, cust);
     let mut least = None;
     for lane in lanes {
         if is_within(least, scaled(q, lane.cost), value) {

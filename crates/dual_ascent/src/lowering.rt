@@ -7,7 +7,7 @@ ghost use Rattle.dual_value.specs.Slacks.{AreSlacks};
 ghost use Rattle.dual_ascent.specs.Ascent.{is_blocked, rise_of, raised};
 ghost use Rattle.dual_ascent.specs.Steps.{IsReached};
 
-use crate::looking::scaled;
+use crate::looking::{lanes_of, scaled};
 use dual_value::{Duals, PreparedBox, level};
 use lane_order::{LaneOrder, PlacedLane};
 
@@ -33,7 +33,7 @@ pub(crate) fn lower_slacks(
     let value = duals.v(cust);
     let q = duals.q();
     let demand = boxed.instance().demand(cust);
-    let lanes = order.lanes(cust);
+    let lanes = lanes_of(boxed, order, cust);
     for lane in lanes {
         if value < scaled(q, lane.cost) {
             return;

@@ -7,7 +7,7 @@ ghost use Rattle.dual_ascent.specs.Levels.{least_level};
 ghost use Rattle.dual_ascent.specs.Ascent.{seated};
 ghost use Rattle.dual_ascent.specs.Steps.{picks, picked};
 
-use crate::looking::{is_within, lesser, scaled};
+use crate::looking::{is_within, lanes_of, lesser, scaled};
 use dual_value::{Duals, PreparedBox, level};
 use lane_order::LaneOrder;
 
@@ -71,7 +71,7 @@ fn least_level(
 {
     let q = duals.q();
     let demand = boxed.instance().demand(cust);
-    let lanes = order.lanes(cust);
+    let lanes = lanes_of(boxed, order, cust);
     let mut least = None;
     for lane in lanes {
         if is_within(least, scaled(q, lane.cost), 0) {

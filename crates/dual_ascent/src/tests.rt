@@ -1,89 +1,15 @@
-ghost use Rattle.std.specs.Prelude.{◌≡◌, IsTrue};
+ghost use Rattle.std.specs.Prelude.{IsTrue};
 ghost use Rattle.location_terms.specs.Fit.{AreTame};
 ghost use Rattle.lane_order.specs.Order.{IsOrderOf};
 ghost use Rattle.dual_ascent.specs.Work.{IsWorkFor};
 
 use super::*;
 use dual_value::{bound_from, tame};
-use instance_store::{CustId, CustRow, LaneRow, SiteId, SiteRow};
+use example_instances::{shared_customer, two_sites, warehouses};
+use instance_store::SiteId;
 use location_terms::Decision;
 use std::alloc::Global;
 use std::test::Fail;
-
-// Two sites and three customers without demand, in millionths, and a lane for each pair.
-fn plain(alloc: Global) -> Result<Instance, NoMemory> {
-    let near = LaneRow::from_slice(alloc, &[Some(1_000_000), Some(2_000_000), Some(9_000_000)])?;
-    let far = LaneRow::from_slice(alloc, &[Some(8_000_000), Some(7_000_000), Some(1_000_000)])?;
-    let sites = vec![in alloc;
-        SiteRow {
-            id: SiteId::new(1),
-            fixed: 10_000_000,
-            cap: None,
-            lanes: near
-        },
-        SiteRow {
-            id: SiteId::new(2),
-            fixed: 12_000_000,
-            cap: None,
-            lanes: far
-        },
-    ]?;
-    let custs = vec![in alloc; customer(1, 0), customer(2, 0), customer(3, 0)]?;
-    Instance::from_parts(alloc, 0, 2, 3, 4, custs, sites)
-}
-
-// Two sites that serve the first customer for nothing, and each one of the others.
-fn shared(alloc: Global) -> Result<Instance, NoMemory> {
-    let first = LaneRow::from_slice(alloc, &[Some(0), Some(0), Some(10_000_000)])?;
-    let second = LaneRow::from_slice(alloc, &[Some(0), Some(10_000_000), Some(0)])?;
-    let sites = vec![in alloc;
-        SiteRow {
-            id: SiteId::new(1),
-            fixed: 2_000_000,
-            cap: None,
-            lanes: first
-        },
-        SiteRow {
-            id: SiteId::new(2),
-            fixed: 2_000_000,
-            cap: None,
-            lanes: second
-        },
-    ]?;
-    let custs = vec![in alloc; customer(1, 0), customer(2, 0), customer(3, 0)]?;
-    Instance::from_parts(alloc, 0, 2, 3, 4, custs, sites)
-}
-
-// Two sites with a capacity of 10, and two customers with a demand of 6 each.
-fn capacitated(alloc: Global) -> Result<Instance, NoMemory> {
-    let first = LaneRow::from_slice(alloc, &[Some(6_739_725_000), Some(3_000_000)])?;
-    let second = LaneRow::from_slice(alloc, &[Some(1_250_000), Some(4_000_000)])?;
-    let sites = vec![in alloc;
-        SiteRow {
-            id: SiteId::new(1),
-            fixed: 7_500_000_000,
-            cap: Some(10_000_000),
-            lanes: first
-        },
-        SiteRow {
-            id: SiteId::new(2),
-            fixed: 500_000,
-            cap: Some(10_000_000),
-            lanes: second
-        },
-    ]?;
-    let custs = vec![in alloc; customer(1, 6_000_000), customer(2, 6_000_000)]?;
-    Instance::from_parts(alloc, 0, 2, 3, 3, custs, sites)
-}
-
-fn customer(id: u32, demand: u64) -> CustRow
-    ensures { result ≡ record { id = id; demand = demand } }
-{
-    CustRow {
-        id: CustId::new(id),
-        demand,
-    }
-}
 
 fn opened(site: u32) -> Decision {
     Decision::Opened(SiteId::new(site))
@@ -206,7 +132,7 @@ fn leaves_at_root(
 #[test]
 fn ascends_in_boxes(rt: HostRuntime) -> Result<(), Fail> {
     let alloc = rt.alloc();
-    let inst = plain(alloc)?;
+    let inst = two_sites(alloc, 0, 2)?;
     let order = LaneOrder::of(alloc, &inst)?;
     assert!(rt;
         leads_from_zeros_to(
@@ -246,7 +172,7 @@ fn ascends_in_boxes(rt: HostRuntime) -> Result<(), Fail> {
 #[test]
 fn stops_where_nothing_is_left(rt: HostRuntime) -> Result<(), Fail> {
     let alloc = rt.alloc();
-    let inst = shared(alloc)?;
+    let inst = shared_customer(alloc)?;
     let order = LaneOrder::of(alloc, &inst)?;
     assert!(rt; leads_from_zeros_to(alloc, &inst, &order, &[], 3, &[2_000_000, 0, 0])?);
     Ok(())
@@ -255,7 +181,7 @@ fn stops_where_nothing_is_left(rt: HostRuntime) -> Result<(), Fail> {
 #[test]
 fn pays_for_capacities(rt: HostRuntime) -> Result<(), Fail> {
     let alloc = rt.alloc();
-    let inst = capacitated(alloc)?;
+    let inst = warehouses(alloc)?;
     let start = duals(alloc, &[0, 0], &[1, 0])?;
     assert!(rt;
         leaves_at_root(

@@ -1,13 +1,14 @@
 -- How steps are stored.
 use Rattle.std.specs.Prelude.{◌≡◌, length}
-use Rattle.dual_steps.specs.Sizes.{Sizes}
+use Rattle.dual_steps.specs.Sizes.{Sizes, sizes_of}
 use Rattle.dual_steps.specs.declared.steps.Steps.TheInside.{Inside}
 
 abbrev pub array_sizes : Inside → Sizes
 array_sizes a = record { sites = length a.slacks.items; customers = length a.customers.items }
 
--- each array has a place for each site, or for each customer
+-- each array has a place for each site of the instance, or for each customer
 pub record AreWhole (a : Inside) : Type 0 where
+  pub instance : array_sizes a ≡ sizes_of a.inst.now
   pub sites : length a.sites.items ≡ length a.slacks.items
   pub taken : length a.taken.items ≡ length a.slacks.items
   pub best_taken : length a.best_taken.items ≡ length a.slacks.items

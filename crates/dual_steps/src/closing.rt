@@ -21,7 +21,7 @@ const FRACTIONS: [f64; 8] = [1.0, 2.0, 3.0, 4.0, 5.0, 6.0, 8.0, 12.0];
 
 const REACHES: [f64; 4] = [1.0, 4.0, 20.0, 100.0];
 
-impl Steps {
+impl Steps<'_> {
     /// Refers to a plan by its open sites: where it is in the box, the steps to a cost keep each dual
     /// between the costs of the customer's first and second lane from them. Whether it is in the box.
     pub fn refer_to(&mut self, order: &LaneOrder, open: &[bool]) -> bool

@@ -2,12 +2,12 @@
 ghost use Rattle.std.specs.Prelude.{◌≡◌, ◌<◌, ◌≤◌, length};
 
 use crate::customer::Customer;
+use crate::paying::float_cost;
 use crate::site::Site;
 use dual_value::SiteState;
 use instance_store::NoMemory;
 use lane_order::LaneOrder;
 use std::alloc::Global;
-use std::num::nearest_u64_to_f64;
 
 // A customer that may pay a site, and what its lane from there costs.
 #[derive(Clone, Copy)]
@@ -82,7 +82,7 @@ fn count_lanes(order: &LaneOrder, j: usize, high: f64, ends: &mut [usize])
     ensures { length ends.new ≡ length ends.old }
 {
     for lane in order.lanes(j) {
-        if high < nearest_u64_to_f64(lane.cost) {
+        if high < float_cost(lane.cost) {
             return;
         }
         let site = lane.site as usize;
@@ -121,7 +121,7 @@ fn place_lanes(order: &LaneOrder, j: usize, high: f64, ends: &mut [usize], payer
     ensures payers { length payers.new ≡ length payers.old }
 {
     for lane in order.lanes(j) {
-        let cost = nearest_u64_to_f64(lane.cost);
+        let cost = float_cost(lane.cost);
         if high < cost {
             return;
         }

@@ -3,8 +3,17 @@ ghost use Rattle.std.specs.Prelude.{◌≡◌, ◌<◌, length};
 
 use crate::customer::Customer;
 use crate::site::Site;
+use instance_store::{Instance, LaneRow};
 use lane_order::LaneOrder;
-use std::num::nearest_u64_to_f64;
+
+// More than any amount, and up to this each whole number is a float: its cast takes no rounding.
+const MANY: u64 = 0x20_0000_0000_0000;
+
+/// What a lane costs, as a float.
+#[inline(always)]
+pub(crate) fn float_cost(cost: u64) -> f64 {
+    (cost % MANY) as f64
+}
 
 /// Fills in the slacks of the sites at the duals that are evaluated. The answer is the sum of the duals.
 pub(crate) fn fill_slacks(
@@ -47,7 +56,7 @@ fn pay(order: &LaneOrder, j: usize, value: f64, slacks: &mut [f64]) -> usize
 {
     let mut paid = 0usize;
     for lane in order.lanes(j) {
-        let cost = nearest_u64_to_f64(lane.cost);
+        let cost = float_cost(lane.cost);
         if value <= cost {
             return paid;
         }
@@ -57,8 +66,84 @@ fn pay(order: &LaneOrder, j: usize, value: f64, slacks: &mut [f64]) -> usize
     paid
 }
 
-/// Fills in the slopes at the duals whose slacks were filled in last, where these sites are open.
-pub(crate) fn fill_slopes(order: &LaneOrder, open: &[bool], customers: &mut [Customer])
+// A lane of a site's row takes so many times as long as a customer's, for its customer has to be fetched.
+const ROW_SHARE: usize = 2;
+
+/// Fills in the slopes at the duals whose slacks were filled in last, where these sites are open: by all
+/// lanes from the open sites where these are far fewer than the lanes that are paid, and else by those.
+pub(crate) fn fill_slopes(
+    order: &LaneOrder,
+    inst: &Instance,
+    open: &[bool],
+    customers: &mut [Customer],
+)
+    requires order { length customers.old ≡ length order.now.lanes }
+    requires customers { length customers.old ≡ length inst.now.customers }
+    requires open { length open.now ≡ length order.now.sites }
+    requires sites { length open.now ≡ length inst.now.sites }
+    ensures { length customers.new ≡ length customers.old }
+{
+    if open_count(open).saturating_mul(customers.len()) < paid_count(customers) / ROW_SHARE {
+        fill_by_site(inst, open, customers);
+    } else {
+        fill_by_customer(order, open, customers);
+    }
+}
+
+fn open_count(open: &[bool]) -> usize {
+    let mut count = 0usize;
+    for i in 0..open.len() {
+        if open[i] {
+            count = count.saturating_add(1);
+        }
+    }
+    count
+}
+
+fn paid_count(customers: &[Customer]) -> usize {
+    let mut count = 0usize;
+    for j in 0..customers.len() {
+        count = count.saturating_add(customers[j].paid);
+    }
+    count
+}
+
+fn fill_by_site(inst: &Instance, open: &[bool], customers: &mut [Customer])
+    requires customers { length customers.old ≡ length inst.now.customers }
+    requires open { length open.now ≡ length inst.now.sites }
+    ensures { length customers.new ≡ length customers.old }
+{
+    start_slopes(customers);
+    for i in 0..open.len() {
+        if open[i] {
+            lower_slopes(inst.lanes(i), customers);
+        }
+    }
+}
+
+fn start_slopes(customers: &mut [Customer])
+    ensures { length customers.new ≡ length customers.old }
+{
+    for j in 0..customers.len() {
+        customers[j].slope = 1.0;
+    }
+}
+
+// Counts an open site, whose lanes these are, where customers pay it.
+fn lower_slopes(lanes: &LaneRow, customers: &mut [Customer])
+    requires { length customers.old ≡ length lanes.now }
+    ensures { length customers.new ≡ length customers.old }
+{
+    for j in 0..customers.len() {
+        if let Some(cost) = lanes.get(j) {
+            if float_cost(cost) < customers[j].value {
+                customers[j].slope -= 1.0;
+            }
+        }
+    }
+}
+
+fn fill_by_customer(order: &LaneOrder, open: &[bool], customers: &mut [Customer])
     requires customers { length customers.old ≡ length order.now.lanes }
     requires open { length open.now ≡ length order.now.sites }
     ensures { length customers.new ≡ length customers.old }
@@ -108,7 +193,7 @@ fn limits(order: &LaneOrder, j: usize, open: &[bool], one: Customer) -> (f64, f6
     let mut low = None;
     for lane in order.lanes(j) {
         if open[lane.site as usize] {
-            let cost = nearest_u64_to_f64(lane.cost);
+            let cost = float_cost(lane.cost);
             match low {
                 None => low = Some(cost),
                 Some(low) => return (low, cost),

@@ -22,7 +22,8 @@ const LEAST_LEFT: f64 = 0.9999;
 
 /// Duals of an instance without capacities, by floats, and the arrays in which they take steps.
 #[derive(Drop)]
-pub struct Steps {
+pub struct Steps<'a> {
+    inst: &'a Instance,
     pub(crate) customers: Vec<Customer>,
     pub(crate) sites: Vec<Site>,
     pub(crate) slacks: Vec<f64>,
@@ -53,7 +54,7 @@ pub struct Steps {
     pub(crate) plan: Vec<bool>,
 }
 
-impl Model for Steps {
+impl<'a> Model for Steps<'a> {
     ghost use Rattle.dual_steps.specs.Sizes.{Sizes};
 
     ghost Value = { Sizes };
@@ -65,9 +66,9 @@ impl Model for Steps {
     ghost invariant = { AreWhole };
 }
 
-impl Steps {
+impl<'a> Steps<'a> {
     /// Steps in the box of the whole instance. It fails only where memory runs out.
-    pub fn of(alloc: Global, inst: &Instance, order: &LaneOrder) -> Result<Steps, NoMemory>
+    pub fn of(alloc: Global, inst: &'a Instance, order: &LaneOrder) -> Result<Steps<'a>, NoMemory>
         requires { IsOrderOf order.now inst.now }
         ensures { IfOk result (λ steps. steps ≡ sizes_of inst.now) }
     {
@@ -86,6 +87,7 @@ impl Steps {
         let plan = vec![in alloc; false; inst.sites()]?;
         let rounded = vec![in alloc; 0; inst.custs()]?;
         Ok(Steps {
+            inst,
             customers,
             sites,
             slacks,
@@ -222,7 +224,7 @@ impl Steps {
             &mut self.taken,
             &mut self.picks,
         );
-        fill_slopes(order, &self.taken, &mut self.customers);
+        fill_slopes(order, self.inst, &self.taken, &mut self.customers);
         self.bound = sum + chosen.sum;
         self.extra = chosen.extra;
     }

@@ -1,38 +1,35 @@
-ghost use Rattle.std.specs.Prelude.{◌≡◌, None};
-
 use crate::{LaneOrder, Steps};
 use dual_value::{Decision, Path, PreparedBox};
-use instance_store::{CustId, CustRow, Instance, LaneRow, NoMemory, SiteId, SiteRow};
+use example_instances::{customer, site, two_sites};
+use instance_store::{Instance, LaneRow, NoMemory, SiteId};
 use std::alloc::Global;
 use std::test::Fail;
 
-fn site(id: u32, fixed: u64, lanes: LaneRow) -> SiteRow
-    ensures { result ≡ record { id = id; fixed = fixed; cap = None; lanes = lanes } }
-{
-    SiteRow {
-        id: SiteId::new(id),
-        fixed,
-        cap: None,
-        lanes,
-    }
+// Four sites of which one is open: the first is the best for each of three customers.
+fn four(alloc: Global) -> Result<Instance, NoMemory> {
+    let first = LaneRow::from_slice(alloc, &[Some(1_000_000), Some(2_000_000), Some(3_000_000)])?;
+    let second = LaneRow::from_slice(alloc, &[Some(6_000_000), Some(6_000_000), Some(6_000_000)])?;
+    let third = LaneRow::from_slice(alloc, &[Some(7_000_000), Some(7_000_000), Some(7_000_000)])?;
+    let last = LaneRow::from_slice(alloc, &[Some(8_000_000), Some(8_000_000), Some(8_000_000)])?;
+    let sites = vec![in alloc;
+        site(1, 0, None, first),
+        site(2, 0, None, second),
+        site(3, 0, None, third),
+        site(4, 0, None, last),
+    ]?;
+    let custs = vec![in alloc; customer(1, 0), customer(2, 0), customer(3, 0)]?;
+    Instance::from_parts(alloc, 1, 1, 5, 4, custs, sites)
 }
 
-fn customer(id: u32) -> CustRow
-    ensures { result ≡ record { id = id; demand = 0 } }
-{
-    CustRow {
-        id: CustId::new(id),
-        demand: 0,
-    }
-}
-
-// Two sites that cost 10 and 12 units, in millionths, and three customers.
-fn pair(alloc: Global) -> Result<Instance, NoMemory> {
-    let first = LaneRow::from_slice(alloc, &[Some(1_000_000), Some(2_000_000), Some(9_000_000)])?;
-    let second = LaneRow::from_slice(alloc, &[Some(8_000_000), Some(7_000_000), Some(1_000_000)])?;
-    let sites = vec![in alloc; site(1, 10_000_000, first), site(2, 12_000_000, second)]?;
-    let custs = vec![in alloc; customer(1), customer(2), customer(3)]?;
-    Instance::from_parts(alloc, 0, 2, 3, 4, custs, sites)
+// Whether smoothed steps reach the cost of the best plan from duals that pay most lanes.
+fn rises_from_many(alloc: Global) -> Result<bool, NoMemory> {
+    let inst = four(alloc)?;
+    let order = LaneOrder::of(alloc, &inst)?;
+    let mut steps = Steps::of(alloc, &inst, &order)?;
+    steps.restart(0.5);
+    steps.start_from(&order, &[9_000_000, 9_000_000, 2_000_000], 1);
+    steps.volume(&order, 6000000.0, 200, 20);
+    Ok(steps.reaches(6000000.0))
 }
 
 // Whether no number is below this one.
@@ -92,7 +89,13 @@ fn rises_in_boxes(alloc: Global, inst: &Instance) -> Result<bool, NoMemory> {
 
 #[test]
 fn steps_reach_the_cost(rt: HostRuntime) -> Result<(), Fail> {
-    let inst = pair(rt.alloc())?;
+    let inst = two_sites(rt.alloc(), 0, 2)?;
     assert!(rt; rises_in_boxes(rt.alloc(), &inst)?);
+    Ok(())
+}
+
+#[test]
+fn steps_go_by_the_open_site(rt: HostRuntime) -> Result<(), Fail> {
+    assert!(rt; rises_from_many(rt.alloc())?);
     Ok(())
 }

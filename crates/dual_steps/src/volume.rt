@@ -15,7 +15,7 @@ const FIRST_WEIGHT: f64 = 0.1;
 // After so many steps the weight is halved where the bound has risen little.
 const REVIEW: u32 = 50;
 
-impl Steps {
+impl Steps<'_> {
     /// Takes smoothed steps towards a bound of `target` millionths, up to so many. After so many `misses`
     /// the steps become shorter.
     pub fn volume(&mut self, order: &LaneOrder, target: f64, steps: u32, misses: u32)

@@ -3,6 +3,7 @@ pub mod Torn
 pub mod Sizes
 pub mod Unpaid
 pub mod Settling
+pub mod Chains
 pub mod Admitted
 pub mod Payments
 pub mod Walked

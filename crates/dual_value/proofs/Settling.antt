@@ -1,13 +1,13 @@
--- What is settled of a site, and which customers are named, with one more step of a path.
+-- What is settled of a site with one more step of a path.
 use Rattle.std.proofs.Common.{◌≡◌, ◌==◌, ℕ, ◌+◌, ◌<◌, ◌++◌, ◌∷◌, [], refl, sym, ap, subst, ◌∙◌, inl, inr, Bool, true, false, ◌&&◌, ◌||◌, not, List, length, take, drop, get_or, slice_set, None, Some, arith}
 use Rattle.std.specs.Prelude.{Contains}
 use Rattle.std.proofs.lemmas.Bool.{ne_eqb, eq-eqb, and_right, false≢true, cases_eq}
-use Rattle.std.proofs.lemmas.List.{length-map, get_or-map, take_all, take_more, take-append-le, length-set, get_or-set_other, get_or_push, get_or_append_left}
+use Rattle.std.proofs.lemmas.List.{take_all, take_more, take-append-le, length-set, get_or-set_other, get_or_push, get_or_append_left}
 use Rattle.std.proofs.lemmas.Grind.{get_or-set_at}
 use Rattle.std.proofs.lemmas.List.Folds.{list_any-append}
 use Rattle.std.specs.List.{list_any}
-use Rattle.location_terms.specs.Instance.{Instance, IsValid, Site, site_at, customer_at, site_ids, customer_ids}
-use Rattle.location_terms.specs.Box.{Path, bars_lane, closes_site, opens_site, must_open, must_close, is_closed, is_called_for}
+use Rattle.location_terms.specs.Instance.{Instance, IsValid, Site, site_at, site_ids}
+use Rattle.location_terms.specs.Box.{Path, closes_site, opens_site, must_open, must_close, is_closed, is_called_for}
 use Rattle.location_terms.specs.declared.decision.Decision.{Decision}
 use Rattle.location_terms.specs.declared.decision.Decision.TheVariants.{Opened, Closed, Yes, No}
 use Rattle.location_terms.specs.declared.status.SiteStatus.{SiteStatus}
@@ -15,7 +15,7 @@ use Rattle.location_terms.specs.declared.status.SiteStatus.TheVariants.{Free, Mu
 use Rattle.location_terms.proofs.Rising.{one_place}
 use Rattle.dual_value.specs.Lanes.{named_site}
 use Rattle.dual_value.specs.SiteState.{IsState}
-use Rattle.dual_value.specs.PreparedSites.{AreStates, AreNamed, settled_by, opened_by, state_of, named_customer}
+use Rattle.dual_value.specs.PreparedSites.{AreStates, settled_by, opened_by, state_of}
 use Rattle.dual_value.specs.declared.settled.SiteState.{SiteState}
 use Rattle.dual_value.specs.declared.settled.SiteState.TheVariants as state
 use Rattle.dual_value.proofs.Torn.{knows_site}
@@ -101,21 +101,6 @@ state_kept path s d st other h =
     by_step path s d st (is_called_for path s) (is_closed path s) (ap (λ b. is_called_for path s || b) (opens_no_other s.id d other) ∙ or_false (is_called_for path s))
     (ap (λ b. is_closed path s || b) (closes_no_other s.id d other) ∙ or_false (is_closed path s)) (settles path s st h)
 
-bars_no_other : (s c : ℕ) (d : Decision) → (named_customer d ≡ Some c → ⊥) → bars_lane s c d ≡ false
-bars_no_other s c (Opened t) other = refl
-bars_no_other s c (Closed t) other = refl
-bars_no_other s c (Yes t e) other = and_right (not (s == t)) (c == e) (ne_eqb c e (λ same. other (ap Some (sym same))))
-bars_no_other s c (No t e) other = and_right (s == t) (c == e) (ne_eqb c e (λ same. other (ap Some (sym same))))
-
--- flags that leave out no customer whom one more step names
-pub named_more : (I : Instance) (path : Path) (d : Decision) (old new : List Bool)
-    → ((j : ℕ) → j < length I.customers → get_or new j false ≡ false → (get_or old j false ≡ false) × (named_customer d ≡ Some (customer_at I j).id → ⊥))
-    → AreNamed I path old → AreNamed I (path ++ d ∷ []) new
-named_more I path d old new fewer are j b unset s =
-    let c = (customer_at I j).id in
-    let before = fewer j b unset in
-    any_more (bars_lane s c) path d ∙ (λ i. are j b before.0 s i || bars_no_other s c d before.1 i)
-
 -- the status alone
 pub state_root : (s : Site) (status : SiteStatus) → s.status ≡ status → IsState [] s (state_of status)
 state_root s Free e = λ i. not (must_open (e i) || false) && not (must_close (e i) || false)
@@ -161,37 +146,6 @@ module _ (I : Instance) (d : Decision) (s : ℕ) (names : named_site d ≡ Some 
         unknown (knows_site I i s b cc)) (are.each i f b);
   }
 
--- flags with that of the customer whom the decision names set
-module _ (I : Instance) (d : Decision) (c : ℕ) (names : named_customer d ≡ Some c) where
-  same_customer : (t : ℕ) → named_customer d ≡ Some t → t ≡ c
-  same_customer t same = let e : Some t ≡ Some c = sym same ∙ names in cc
-
-  pub named_set : (path : Path) (named : List Bool) (k : ℕ) → IsValid I → length named ≡ length I.customers → (k < length I.customers) × ((customer_at I k).id ≡ c)
-      → AreNamed I path named → AreNamed I (path ++ d ∷ []) (slice_set named k true)
-  named_set path named k valid long found are =
-      named_more I path d named (slice_set named k true) (λ j b unset. elim (cases_eq j k) [
-        | inl same ↦ absurd (false≢true (sym unset ∙ get_or-set_at named k j true false same (omega (arith, found.0, long))))
-        | inr other ↦ (
-          sym (get_or-set_other named k j true false other) ∙ unset,
-          λ same. other (one_place (λ x. x.id) I.customers _ valid.customers_named.rising j k b found.0 (same_customer (customer_at I j).id same ∙ sym found.1)),
-        )
-      ]) are
-
-  -- and where the instance has no such customer
-  pub named_kept : (path : Path) (named : List Bool) → (Contains (customer_ids I) c → ⊥) → AreNamed I path named → AreNamed I (path ++ d ∷ []) named
-  named_kept path named unknown are =
-      named_more I path d named named (λ j b unset. (
-        unset,
-        λ same. unknown (
-            let e : c ≡ (customer_at I j).id = sym (same_customer (customer_at I j).id same) in
-            let h : j < length (customer_ids I) = rw length-map b in
-            (j, h, get_or-map (λ x. x.id) I.customers j _ c b ∙ sym e)),
-      )) are
-
--- a decision that names no customer
-pub named_by_none : (I : Instance) (path : Path) (d : Decision) (named : List Bool) → named_customer d ≡ None → AreNamed I path named → AreNamed I (path ++ d ∷ []) named
-named_by_none I path d named none are = named_more I path d named named (λ j b unset. (unset, λ same. let e : None ≡ Some (customer_at I j).id = sym none ∙ same in cc)) are
-
 -- a decision that names no site
 pub states_by_none : (I : Instance) (path : Path) (d : Decision) (states : List SiteState) → named_site d ≡ None → AreStates I path states → AreStates I (path ++ d ∷ []) states
 states_by_none I path d states none are = record {
@@ -200,7 +154,7 @@ states_by_none I path d states none are = record {
 }
 
 -- a list that is written whole into the room of one that is as long
-written_whole : {X : Type 0} (old new : List X) (n : ℕ) → n ≡ length old → length new ≡ length old → take n (new ++ drop (length new) old) ≡ new
+pub written_whole : {X : Type 0} (old new : List X) (n : ℕ) → n ≡ length old → length new ≡ length old → take n (new ++ drop (length new) old) ≡ new
 written_whole old new n room long = take-append-le n new (drop (length new) old) (omega (arith, room, long)) ∙ take_all n new (omega (arith, room, long))
 
 -- what one more step of a path makes of a list

@@ -7,7 +7,7 @@ use Rattle.location_terms.specs.declared.decision.Decision.{Decision}
 use Rattle.location_terms.specs.declared.decision.Decision.TheVariants.{Opened, Closed, Yes, No}
 use Rattle.dual_value.specs.Lanes.{steps_on_lanes, is_lane_step}
 
-more_steps : (d : Decision) (path : Path) → steps_on_lanes (d ∷ path) ≡ cond (is_lane_step d) 1 0 + steps_on_lanes path
+pub more_steps : (d : Decision) (path : Path) → steps_on_lanes (d ∷ path) ≡ cond (is_lane_step d) 1 0 + steps_on_lanes path
 more_steps d path = sum_by-cons (λ x. cond (is_lane_step x) 1 0) d path
 
 pub none_barred : (s c : ℕ) (path : Path) → steps_on_lanes path ≡ 0 → list_any (bars_lane s c) path ≡ false

@@ -4,6 +4,7 @@ pub mod Paid
 pub mod RangeFault
 pub mod Prepared
 pub mod Slacks
+pub mod LaneSteps
 pub mod PreparedSites
 pub mod Sorted
 pub mod Zeros

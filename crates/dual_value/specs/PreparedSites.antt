@@ -1,13 +1,13 @@
 -- What a prepared box holds by site and by customer.
-use Rattle.std.specs.Prelude.{◌≡◌, ℕ, ◌<◌, ◌≤◌, ◌&&◌, not, Bool, true, false, nat_lt, List, length, slice_index_or, Option, Some, None}
-use Rattle.std.specs.List.{list_any}
-use Rattle.location_terms.specs.Instance.{Instance, Site, site_at, customer_at}
-use Rattle.location_terms.specs.Box.{Path, bars_lane, is_closed, is_torn, holds_demand}
+use Rattle.std.specs.Prelude.{◌≡◌, ℕ, ◌<◌, ◌≤◌, ◌&&◌, not, Bool, true, false, nat_lt, List, length, slice_index_or}
+use Rattle.location_terms.specs.Instance.{Instance, Site, site_at}
+use Rattle.location_terms.specs.Box.{Path, is_closed, is_torn, holds_demand}
 use Rattle.location_terms.specs.declared.decision.Decision.{Decision}
 use Rattle.location_terms.specs.declared.decision.Decision.TheVariants.{Opened, Closed, Yes, No}
 use Rattle.location_terms.specs.declared.status.SiteStatus.{SiteStatus}
 use Rattle.location_terms.specs.declared.status.SiteStatus.TheVariants.{Free, MustOpen, MustClose}
 use Rattle.location_terms.specs.declared.limits.TheConstants.{MAX_AMOUNT}
+use Rattle.dual_value.specs.LaneSteps.{AreChains}
 use Rattle.dual_value.specs.SiteState.{IsState}
 use Rattle.dual_value.specs.declared.settled.SiteState.{SiteState}
 use Rattle.dual_value.specs.declared.settled.SiteState.TheVariants as state
@@ -33,14 +33,6 @@ pub record AreDemandEnds (I : Instance) (path : Path) (ends : List ℕ) : Type 0
   pub count : length ends ≡ length I.sites
   pub each : (i : ℕ) (d : ℕ) → i < length I.sites → IsDemandEnd I path (site_at I i) (slice_index_or ends i d)
 
--- no decision takes a lane to the customer away
-abbrev pub IsUnnamed : Path → ℕ → Type 0
-IsUnnamed path c = (s : ℕ) → list_any (bars_lane s c) path ≡ false
-
--- where no flag is set for a customer, by place, no step takes a lane to it away
-abbrev pub AreNamed : Instance → Path → List Bool → Type 0
-AreNamed I path named = (j : ℕ) → j < length I.customers → slice_index_or named j false ≡ false → IsUnnamed path (customer_at I j).id
-
 -- what a status alone settles
 abbrev pub state_of : SiteStatus → SiteState
 state_of MustOpen = state.Opened
@@ -60,14 +52,7 @@ settled_by old (Closed s) = state.Closed
 settled_by old (Yes s c) = opened_by old
 settled_by old (No s c) = old
 
--- the customer to whom the decision takes lanes away
-abbrev pub named_customer : Decision → Option ℕ
-named_customer (Opened s) = None
-named_customer (Closed s) = None
-named_customer (Yes s c) = Some c
-named_customer (No s c) = Some c
-
 pub record IsPrepared (a : Inside) : Type 0 where
   pub states : AreStates a.inst.now a.path.now a.states.items
   pub ends : AreDemandEnds a.inst.now a.path.now a.demand_ends.items
-  pub named : AreNamed a.inst.now a.path.now a.named.items
+  pub chains : AreChains a.inst.now a.path.now a.lane_steps.lasts.items a.lane_steps.befores.items

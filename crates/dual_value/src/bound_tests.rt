@@ -3,9 +3,8 @@ ghost use Rattle.location_terms.specs.Fit.{DualsFit};
 ghost use Rattle.location_terms.specs.declared.limits.TheConstants.{MAX_AMOUNT};
 
 use super::*;
-use crate::tests::{
-    Prices, capacitated, closed, duals_of, example, fit, no, opened, path, single, yes,
-};
+use crate::tests::{Prices, closed, duals_of, fit, no, opened, path, single, yes};
+use example_instances::{two_sites, warehouses};
 use instance_store::{Instance, NoMemory};
 use lane_order::LaneOrder;
 use std::alloc::Global;
@@ -155,7 +154,7 @@ fn prices_the_count(
 
 // The count is 1 to 2: a refund of half a unit a site is paid once, and a charge twice.
 fn prices_counts(alloc: Global) -> bool {
-    let Ok(inst) = example(alloc, 1, 2) else {
+    let Ok(inst) = two_sites(alloc, 1, 2) else {
         return false;
     };
     prices_the_count(alloc, &inst, -500_000, &[-500_000, 500_000], 22_000_000)
@@ -166,7 +165,7 @@ fn prices_counts(alloc: Global) -> bool {
 // pay 7,000,000 and 982,000,000 above them, and its capacity takes 30,000,000 off. At site 2, which
 // is not priced, the second customer pays nothing.
 fn prices_a_capacity(alloc: Global) -> bool {
-    let Ok(inst) = capacitated(alloc) else {
+    let Ok(inst) = warehouses(alloc) else {
         return false;
     };
     let prices = Prices {
@@ -233,7 +232,7 @@ fn bounds_again_and_again(alloc: Global, inst: &Instance) -> bool {
 #[test]
 fn slacks_and_bounds(rt: HostRuntime) -> Result<(), Fail> {
     let alloc = rt.alloc();
-    let inst = example(alloc, 0, 3_000)?;
+    let inst = two_sites(alloc, 0, 3_000)?;
     assert!(rt; bounds_boxes(alloc, &inst));
     assert!(rt; bounds_a_torn_box(alloc, &inst));
     assert!(rt; bounds_again_and_again(alloc, &inst));

@@ -8,6 +8,7 @@ mod box_bounds;
 mod closing;
 mod duals;
 mod fit;
+mod lane_steps;
 mod laws;
 mod path;
 mod prepared;

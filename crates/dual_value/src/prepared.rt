@@ -5,8 +5,8 @@ ghost use Rattle.location_terms.specs.Instance.{site_at, customer_at, lane};
 ghost use Rattle.location_terms.specs.Box.{bars_lane, is_allowed, is_opened};
 ghost use Rattle.dual_value.specs.SiteState.{IsState};
 
-use crate::preparing::{demand_ends, named_customers, site_states};
-use crate::settled::is_barred;
+use crate::lane_steps::{LaneSteps, chain_bars, lane_steps};
+use crate::preparing::{demand_ends, site_states};
 use crate::{Path, SiteState};
 use instance_store::{Instance, NoMemory};
 use std::alloc::Global;
@@ -21,8 +21,7 @@ pub struct PreparedBox<'a> {
     states: Vec<SiteState>,
     // By site, the end of the demands that it may serve: 0 where it may serve none.
     demand_ends: Vec<u64>,
-    // By customer, whether a step on a lane names it; empty where no step is on a lane.
-    named: Vec<bool>,
+    lane_steps: LaneSteps,
 }
 
 impl<'a> Model for PreparedBox<'a> {
@@ -50,13 +49,13 @@ impl<'a> PreparedBox<'a> {
     {
         let states = site_states(alloc, inst, path)?;
         let demand_ends = demand_ends(alloc, inst, path, &states)?;
-        let named = named_customers(alloc, inst, path)?;
+        let lane_steps = lane_steps(alloc, inst, path)?;
         Ok(PreparedBox {
             inst,
             path,
             states,
             demand_ends,
-            named,
+            lane_steps,
         })
     }
 
@@ -117,9 +116,16 @@ impl<'a> PreparedBox<'a> {
         requires customer { cust < length self.now.instance.customers }
         ensures { result ≡ list_any (bars_lane (site_at self.now.instance site).id (customer_at self.now.instance cust).id) self.now.path }
     {
-        if cust >= self.named.len() || !self.named[cust] {
+        let lasts = &self.lane_steps.lasts;
+        if cust >= lasts.len() || lasts[cust] == 0 {
             return false;
         }
-        is_barred(self.path, self.inst.site_id(site), self.inst.cust_id(cust))
+        chain_bars(
+            self.path,
+            &self.lane_steps.befores,
+            lasts[cust],
+            self.inst.site_id(site),
+            self.inst.cust_id(cust),
+        )
     }
 }

@@ -1,14 +1,14 @@
-//! How a box is prepared: each step of its path is looked at once.
+//! How the sites of a box are prepared: each step of its path is looked at once.
 ghost use Rattle.std.specs.Prelude.{◌≡◌, ◌<◌, ◌≤◌, ◌++◌, ◌&&◌, [], ◌∷◌, IfOk, length, ℕ, nat_lt, not};
 ghost use Rattle.location_terms.specs.Instance.{IsValid};
 ghost use Rattle.location_terms.specs.Box.{Path as Decisions, holds_demand, is_torn};
 ghost use Rattle.location_terms.specs.declared.limits.TheConstants.{MAX_AMOUNT};
 ghost use Rattle.instance_store.specs.Small.{IsSmall};
-ghost use Rattle.dual_value.specs.PreparedSites.{AreStates, AreDemandEnds, AreNamed, settled_by, opened_by, state_of, named_customer, is_open};
+ghost use Rattle.dual_value.specs.PreparedSites.{AreStates, AreDemandEnds, settled_by, opened_by, state_of, is_open};
 
 use crate::settled::named_site;
 use crate::{Path, SiteState, is_torn};
-use instance_store::{CustId, Instance, NoMemory, SiteStatus};
+use instance_store::{Instance, NoMemory, SiteStatus};
 use location_terms::{Decision, MAX_AMOUNT};
 use std::alloc::Global;
 
@@ -122,48 +122,5 @@ fn open_demand_end(torn: bool, cap: Option<u64>) -> u64
     match cap {
         None => MAX_AMOUNT + 1,
         Some(cap) => cap + 1,
-    }
-}
-
-/// By customer, whether a step on a lane names it; nothing where no step is on a lane.
-pub(crate) fn named_customers(
-    alloc: Global,
-    inst: &Instance,
-    path: &Path,
-) -> Result<Vec<bool>, NoMemory>
-    ensures { IfOk result (λ named. AreNamed inst.now path.now named.items) }
-{
-    if path.is_of_sites() {
-        return Ok(Vec::new(alloc));
-    }
-    let mut named = vec![in alloc; false; inst.custs()]?;
-    for step in path.as_slice() {
-        name(inst, step, &mut named);
-    }
-    Ok(named)
-}
-
-fn name(inst: &Instance, step: &Decision, named: &mut [bool])
-    requires valid { IsValid inst.now }
-    requires long { length named.old ≡ length inst.now.customers }
-    ensures long { length named.new ≡ length named.old }
-    ensures named { (path : Decisions) → AreNamed inst.now path named.old → AreNamed inst.now (path ++ step.now ∷ []) named.new }
-{
-    let Some(id) = named_customer(step) else {
-        return;
-    };
-    let Some(cust) = inst.cust_at(id) else {
-        return;
-    };
-    named[cust] = true;
-}
-
-// The customer to whom the step takes lanes away.
-fn named_customer(step: &Decision) -> Option<CustId>
-    ensures { result ≡ named_customer step.now }
-{
-    match step {
-        Decision::Opened(_) | Decision::Closed(_) => None,
-        Decision::Yes(_, cust) | Decision::No(_, cust) => Some(*cust),
     }
 }

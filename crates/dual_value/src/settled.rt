@@ -104,7 +104,7 @@ pub(crate) fn is_unbarred(inst: &Instance, path: &Path, site: usize, cust: usize
     }
 }
 
-pub(crate) fn is_barred(path: &Path, site: SiteId, cust: CustId) -> bool
+fn is_barred(path: &Path, site: SiteId, cust: CustId) -> bool
     ensures { result ≡ list_any (bars_lane site cust) path.now }
 {
     if path.is_of_sites() {
@@ -177,7 +177,7 @@ fn opens_site(site: SiteId, step: &Decision) -> bool
     }
 }
 
-fn bars_lane(site: SiteId, cust: CustId, step: &Decision) -> bool
+pub(crate) fn bars_lane(site: SiteId, cust: CustId, step: &Decision) -> bool
     ensures { result ≡ bars_lane site cust step.now }
 {
     match step {

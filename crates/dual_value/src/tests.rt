@@ -1,80 +1,12 @@
-ghost use Rattle.std.specs.Prelude.{◌<◌, ◌≤◌, IsTrue, length};
+ghost use Rattle.std.specs.Prelude.{◌<◌, IsTrue, length};
 ghost use Rattle.instance_store.specs.Small.{IsSmall};
 ghost use Rattle.location_terms.specs.Fit.{DualsFit};
 
 use super::*;
-use instance_store::{CustId, CustRow, Instance, LaneRow, NoMemory, SiteId, SiteRow, SiteStatus};
+use example_instances::{customer, site, two_sites, warehouses};
+use instance_store::{CustId, Instance, LaneRow, NoMemory, SiteId, SiteStatus};
 use std::alloc::Global;
 use std::test::Fail;
-
-// Two sites and three customers without demand, in millionths.
-pub(crate) fn example(alloc: Global, lo: u32, hi: u32) -> Result<Instance, NoMemory>
-    requires order { lo ≤ hi }
-    requires few { hi ≤ 3000 }
-{
-    let near = LaneRow::from_slice(alloc, &[Some(1_000_000), Some(2_000_000), Some(9_000_000)])?;
-    let far = LaneRow::from_slice(alloc, &[Some(8_000_000), Some(7_000_000), Some(1_000_000)])?;
-    let sites = vec![in alloc;
-        SiteRow {
-            id: SiteId::new(1),
-            fixed: 10_000_000,
-            cap: None,
-            lanes: near
-        },
-        SiteRow {
-            id: SiteId::new(2),
-            fixed: 12_000_000,
-            cap: None,
-            lanes: far
-        },
-    ]?;
-    let custs = vec![in alloc;
-        CustRow {
-            id: CustId::new(1),
-            demand: 0
-        },
-        CustRow {
-            id: CustId::new(2),
-            demand: 0
-        },
-        CustRow {
-            id: CustId::new(3),
-            demand: 0
-        },
-    ]?;
-    Instance::from_parts(alloc, lo, hi, 3, 4, custs, sites)
-}
-
-// Two sites with a capacity of 10, and two customers with a demand of 6 each.
-pub(crate) fn capacitated(alloc: Global) -> Result<Instance, NoMemory> {
-    let first = LaneRow::from_slice(alloc, &[Some(6_739_725_000), Some(3_000_000)])?;
-    let second = LaneRow::from_slice(alloc, &[Some(1_250_000), Some(4_000_000)])?;
-    let sites = vec![in alloc;
-        SiteRow {
-            id: SiteId::new(1),
-            fixed: 7_500_000_000,
-            cap: Some(10_000_000),
-            lanes: first
-        },
-        SiteRow {
-            id: SiteId::new(2),
-            fixed: 500_000,
-            cap: Some(10_000_000),
-            lanes: second
-        },
-    ]?;
-    let custs = vec![in alloc;
-        CustRow {
-            id: CustId::new(1),
-            demand: 6_000_000
-        },
-        CustRow {
-            id: CustId::new(2),
-            demand: 6_000_000
-        },
-    ]?;
-    Instance::from_parts(alloc, 0, 2, 3, 3, custs, sites)
-}
 
 // A site of this capacity, and a customer with a demand of 6 at this cost from it.
 pub(crate) fn single(
@@ -86,20 +18,8 @@ pub(crate) fn single(
     requires cost { IsSmall cost }
 {
     let lanes = LaneRow::from_slice(alloc, &[cost])?;
-    let sites = vec![in alloc;
-        SiteRow {
-            id: SiteId::new(1),
-            fixed: 1,
-            cap,
-            lanes
-        },
-    ]?;
-    let custs = vec![in alloc;
-        CustRow {
-            id: CustId::new(1),
-            demand: 6_000_000
-        },
-    ]?;
+    let sites = vec![in alloc; site(1, 1, cap, lanes)]?;
+    let custs = vec![in alloc; customer(1, 6_000_000)]?;
     Instance::from_parts(alloc, 0, 1, 2, 2, custs, sites)
 }
 
@@ -232,7 +152,7 @@ fn is_tame(alloc: Global, inst: &Instance, price: u64, expected: bool) -> bool {
 
 // A demand of 6,000,000 at these prices is just within 10^23, and just above it.
 fn limits_prices(alloc: Global) -> bool {
-    let Ok(inst) = capacitated(alloc) else {
+    let Ok(inst) = warehouses(alloc) else {
         return false;
     };
     is_tame(alloc, &inst, 16_666_666_666_666_666, true)
@@ -502,7 +422,7 @@ fn paths_duals_and_capacities(rt: HostRuntime) {
 #[test]
 fn decisions_on_the_example(rt: HostRuntime) -> Result<(), Fail> {
     let alloc = rt.alloc();
-    let mut inst = example(alloc, 0, 3_000)?;
+    let mut inst = two_sites(alloc, 0, 3_000)?;
     assert!(rt; finds_the_first_fault(alloc, &inst));
     assert!(rt; replaces_a_dual(alloc, &inst));
     assert!(rt; settles_free_sites(alloc, &inst));

@@ -32,24 +32,22 @@ block_kept I j old new b kept of = record {
 }
 
 -- the block of one more customer
-pub one_more_block : (I : Instance) (j : ℕ) (old new : List PlacedLane) (blocks more : List Block) (b : Block) → length blocks ≡ j
-    → ((k : ℕ) (d : Block) → k < j → IsBlockOf I k old (get_or blocks k d)) → IsAdded I j old new b → more ≡ blocks ++ b ∷ []
-    → (k : ℕ) (d : Block) → k < j + 1 → IsBlockOf I k new (get_or more k d)
-one_more_block I j old new blocks more b count each added is k d below =
-    subst (λ bs. IsBlockOf I k new (get_or bs k d)) (sym is) (elim (cases_eq k j) [
-      | inl same ↦
-          subst (λ (p : ℕ × Block). IsBlockOf I p.0 new p.1) (λ m. (sym same m, sym (get_or_push blocks b d k (count ∙ sym same)) m)) added.added
-      | inr other ↦
-          let early : k < j = omega (arith, other, below) in
-          subst (IsBlockOf I k new) (sym (get_or_append_left blocks (b ∷ []) d k (omega (arith, early, count)))) (block_kept I k old new (get_or blocks k d) added.kept (each k d early))
-    ])
+module _ (I : Instance) (j : ℕ) (old new : List PlacedLane) (blocks more : List Block) (b : Block) (count : length blocks ≡ j)
+    (each : (k : ℕ) (d : Block) → k < j → IsBlockOf I k old (get_or blocks k d)) (added : IsAdded I j old new b) (is : more ≡ blocks ++ b ∷ []) where
+  pub one_more_block : (k : ℕ) (d : Block) → k < j + 1 → IsBlockOf I k new (get_or more k d)
+  one_more_block k d below =
+      subst (λ bs. IsBlockOf I k new (get_or bs k d)) (sym is) (elim (cases_eq k j) [
+        | inl same ↦
+            subst (λ (p : ℕ × Block). IsBlockOf I p.0 new p.1) (λ m. (sym same m, sym (get_or_push blocks b d k (count ∙ sym same)) m)) added.added
+        | inr other ↦
+            let early : k < j = omega (arith, other, below) in
+            subst (IsBlockOf I k new) (sym (get_or_append_left blocks (b ∷ []) d k (omega (arith, early, count)))) (block_kept I k old new (get_or blocks k d) added.kept (each k d early))
+      ])
 
-pub one_more_behind : (I : Instance) (j : ℕ) (old new : List PlacedLane) (blocks more : List Block) (b : Block) → length blocks ≡ j
-    → ((k : ℕ) (d : Block) → k < j → IsBlockOf I k old (get_or blocks k d)) → IsAdded I j old new b → more ≡ blocks ++ b ∷ []
-    → AllPairs (λ a b. a.end ≤ b.start) blocks → AllPairs (λ a b. a.end ≤ b.start) more
-one_more_behind I j old new blocks more b count each added is before =
-    subst (AllPairs (λ (a b : Block). a.end ≤ b.start)) (sym is)
-    (all_pairs_push (λ (a b : Block). a.end ≤ b.start) blocks b before (λ k d below. let block = each k d (omega (arith, below, count)) in omega (arith, block.within, added.behind)))
+  pub one_more_behind : AllPairs (λ a b. a.end ≤ b.start) blocks → AllPairs (λ a b. a.end ≤ b.start) more
+  one_more_behind before =
+      subst (AllPairs (λ (a b : Block). a.end ≤ b.start)) (sym is)
+      (all_pairs_push (λ (a b : Block). a.end ≤ b.start) blocks b before (λ k d below. let block = each k d (omega (arith, below, count)) in omega (arith, block.within, added.behind)))
 
 -- blocks of an instance's customers, with the ids of its sites, are its order
 module _ (a : Inside) (I : Instance) (ids : a.site_ids.items ≡ site_ids I) (of : AreBlocks I a.lanes.items a.blocks.items) where

@@ -1,42 +1,8 @@
 use super::*;
-use instance_store::{CustId, CustRow, LaneRow, SiteRow};
+use example_instances::{customer, site, two_sites};
+use instance_store::LaneRow;
 use std::alloc::Global;
 use std::test::Fail;
-
-// Two sites and three customers, in millionths, and a lane for each pair.
-fn plain(alloc: Global) -> Result<Instance, Fail> {
-    let near = LaneRow::from_slice(alloc, &[Some(1_000_000), Some(2_000_000), Some(9_000_000)])?;
-    let far = LaneRow::from_slice(alloc, &[Some(8_000_000), Some(7_000_000), Some(1_000_000)])?;
-    let sites = vec![in alloc;
-        SiteRow {
-            id: SiteId::new(1),
-            fixed: 10_000_000,
-            cap: None,
-            lanes: near
-        },
-        SiteRow {
-            id: SiteId::new(2),
-            fixed: 12_000_000,
-            cap: None,
-            lanes: far
-        },
-    ]?;
-    let custs = vec![in alloc;
-        CustRow {
-            id: CustId::new(1),
-            demand: 1_000_000
-        },
-        CustRow {
-            id: CustId::new(2),
-            demand: 1_000_000
-        },
-        CustRow {
-            id: CustId::new(3),
-            demand: 1_000_000
-        },
-    ]?;
-    Ok(Instance::from_parts(alloc, 0, 2, 3, 4, custs, sites)?)
-}
 
 // Three sites, two of which cost the first customer the same. The second one has a single lane.
 fn tied(alloc: Global) -> Result<Instance, Fail> {
@@ -44,35 +10,11 @@ fn tied(alloc: Global) -> Result<Instance, Fail> {
     let middle = LaneRow::from_slice(alloc, &[Some(2), Some(4)])?;
     let high = LaneRow::from_slice(alloc, &[Some(2), None])?;
     let sites = vec![in alloc;
-        SiteRow {
-            id: SiteId::new(3),
-            fixed: 0,
-            cap: None,
-            lanes: low
-        },
-        SiteRow {
-            id: SiteId::new(5),
-            fixed: 0,
-            cap: None,
-            lanes: middle
-        },
-        SiteRow {
-            id: SiteId::new(9),
-            fixed: 0,
-            cap: None,
-            lanes: high
-        },
+        site(3, 0, None, low),
+        site(5, 0, None, middle),
+        site(9, 0, None, high),
     ]?;
-    let custs = vec![in alloc;
-        CustRow {
-            id: CustId::new(2),
-            demand: 1
-        },
-        CustRow {
-            id: CustId::new(4),
-            demand: 1
-        },
-    ]?;
+    let custs = vec![in alloc; customer(2, 1), customer(4, 1)]?;
     Ok(Instance::from_parts(alloc, 0, 3, 10, 5, custs, sites)?)
 }
 
@@ -100,7 +42,7 @@ fn has_place(order: &LaneOrder, cust: usize, rank: usize, cost: u64, site: u32) 
 
 #[test]
 fn orders_an_instance_with_all_lanes(rt: HostRuntime) -> Result<(), Fail> {
-    let inst = plain(rt.alloc())?;
+    let inst = two_sites(rt.alloc(), 0, 2)?;
     let order = LaneOrder::of(rt.alloc(), &inst)?;
     assert!(rt; order.custs() == 3);
     assert!(rt;

@@ -1,30 +1,28 @@
 use Rattle.std.proofs.Common.{◌≡◌, ◌+◌, ◌<◌, ◌≤◌, ℕ, false, sym, subst, ◌∙◌, arith, length}
-use Rattle.dual_adjust.proofs.LanesPaid.{walk_of, rank_is_lane, rank_is_small, dear_on}
+use Rattle.dual_adjust.proofs.LanesPaid.{rank_is_lane, rank_is_small, dear_on}
 use Rattle.dual_adjust.proofs.Greatest.{IsBest, no_best, best_on, best_step, pays, level, site, walked_greatest}
 use Rattle.dual_adjust.proofs.lowering.level_below.Goals as goal
 
 pub loop-lane-init : goal.loop-lane-init
 loop-lane-init c =
-    let walk = walk_of _ _ c.instance.ensures c.custs-custs.ensures.valid c.requires.order c.requires.customer c.lanes-lane-items.ensures.exact c.lanes-lane-items.ensures.known c.lanes-lane-items.ensures.rising in
+    let walk = c.lanes_of-lane-items.ensures in
     let I = c.args.boxed.now.instance in
     let path = c.args.boxed.now.path in
     let d = c.args.duals.now in
-    let lanes = c.lanes-lane-items.result.now in
+    let lanes = c.lanes_of-lane-items.result.now in
     no_best (pays I path d c.args.order.now c.args.cust lanes walk) (level I path d c.args.order.now c.args.cust lanes walk) (site I path d c.args.order.now c.args.cust lanes walk)
 
 pub is_dear-requires-clause-cost : goal.is_dear-requires-clause-cost
-is_dear-requires-clause-cost c =
-    let walk = walk_of _ _ c.instance.ensures c.custs-custs.ensures.valid c.requires.order c.requires.customer c.lanes-lane-items.ensures.exact c.lanes-lane-items.ensures.known c.lanes-lane-items.ensures.rising in
-    rank_is_small _ c.args.boxed.now.path c.args.duals.now _ _ _ walk c.loop-lane.lane-index c.loop-lane-test.true
+is_dear-requires-clause-cost c = rank_is_small _ c.args.boxed.now.path c.args.duals.now _ _ _ c.lanes_of-lane-items.ensures c.loop-lane.lane-index c.loop-lane-test.true
 
 pub returns-then-is_dear : goal.returns-then-is_dear
 returns-then-is_dear c =
-    let walk = walk_of _ _ c.instance.ensures c.custs-custs.ensures.valid c.requires.order c.requires.customer c.lanes-lane-items.ensures.exact c.lanes-lane-items.ensures.known c.lanes-lane-items.ensures.rising in
+    let walk = c.lanes_of-lane-items.ensures in
     let I = c.args.boxed.now.instance in
     let path = c.args.boxed.now.path in
     let d = c.args.duals.now in
     let j = c.args.cust in
-    let lanes = c.lanes-lane-items.result.now in
+    let lanes = c.lanes_of-lane-items.result.now in
     let k = c.loop-lane.lane-index in
     let passes = pays I path d c.args.order.now j lanes walk in
     let value = level I path d c.args.order.now j lanes walk in
@@ -34,23 +32,19 @@ returns-then-is_dear c =
     sym (walked_greatest I path d c.args.order.now j lanes walk c.loop-lane.greatest all_seen)
 
 pub paid_level-level-requires-clause-lane : goal.paid_level-level-requires-clause-lane
-paid_level-level-requires-clause-lane c =
-    let walk = walk_of _ _ c.instance.ensures c.custs-custs.ensures.valid c.requires.order c.requires.customer c.lanes-lane-items.ensures.exact c.lanes-lane-items.ensures.known c.lanes-lane-items.ensures.rising in
-    rank_is_lane _ c.args.boxed.now.path c.args.duals.now _ _ _ walk c.loop-lane.lane-index c.loop-lane-test.true
+paid_level-level-requires-clause-lane c = rank_is_lane _ c.args.boxed.now.path c.args.duals.now _ _ _ c.lanes_of-lane-items.ensures c.loop-lane.lane-index c.loop-lane-test.true
 
 pub paid_level-level-requires-clause-small : goal.paid_level-level-requires-clause-small
-paid_level-level-requires-clause-small c =
-    let walk = walk_of _ _ c.instance.ensures c.custs-custs.ensures.valid c.requires.order c.requires.customer c.lanes-lane-items.ensures.exact c.lanes-lane-items.ensures.known c.lanes-lane-items.ensures.rising in
-    rank_is_small _ c.args.boxed.now.path c.args.duals.now _ _ _ walk c.loop-lane.lane-index c.loop-lane-test.true
+paid_level-level-requires-clause-small c = rank_is_small _ c.args.boxed.now.path c.args.duals.now _ _ _ c.lanes_of-lane-items.ensures c.loop-lane.lane-index c.loop-lane-test.true
 
 pub loop-lane-preserved : goal.loop-lane-preserved
 loop-lane-preserved c =
-    let walk = walk_of _ _ c.instance.ensures c.custs-custs.ensures.valid c.requires.order c.requires.customer c.lanes-lane-items.ensures.exact c.lanes-lane-items.ensures.known c.lanes-lane-items.ensures.rising in
+    let walk = c.lanes_of-lane-items.ensures in
     let I = c.args.boxed.now.instance in
     let path = c.args.boxed.now.path in
     let d = c.args.duals.now in
     let j = c.args.cust in
-    let lanes = c.lanes-lane-items.result.now in
+    let lanes = c.lanes_of-lane-items.result.now in
     let k = c.loop-lane.lane-index in
     let passes = pays I path d c.args.order.now j lanes walk in
     let value = level I path d c.args.order.now j lanes walk in
@@ -60,12 +54,12 @@ loop-lane-preserved c =
 
 pub returns : goal.returns
 returns c =
-    let walk = walk_of _ _ c.instance.ensures c.custs-custs.ensures.valid c.requires.order c.requires.customer c.lanes-lane-items.ensures.exact c.lanes-lane-items.ensures.known c.lanes-lane-items.ensures.rising in
+    let walk = c.lanes_of-lane-items.ensures in
     let I = c.args.boxed.now.instance in
     let path = c.args.boxed.now.path in
     let d = c.args.duals.now in
     let j = c.args.cust in
-    let lanes = c.lanes-lane-items.result.now in
+    let lanes = c.lanes_of-lane-items.result.now in
     let k = c.loop-lane.lane-index in
     let passes = pays I path d c.args.order.now j lanes walk in
     let value = level I path d c.args.order.now j lanes walk in

@@ -3,29 +3,27 @@ use Rattle.std.proofs.lemmas.Bool.{and_right}
 use Rattle.dual_adjust.specs.Slackness.{is_tight}
 use Rattle.dual_adjust.specs.Paid.{is_paid}
 use Rattle.dual_adjust.proofs.MoreThanOne.{IsSeen, nothing_seen, seen_next, seen_first, seen_on}
-use Rattle.dual_adjust.proofs.LanesPaid.{walk_of, pays_tight, site_of, rank_is_lane, rank_is_small, dear_on, second_lane, no_second_lane}
+use Rattle.dual_adjust.proofs.LanesPaid.{pays_tight, site_of, rank_is_lane, rank_is_small, dear_on, second_lane, no_second_lane}
 use Rattle.dual_adjust.proofs.lowering.pays_two_tight.Goals as goal
 use Rattle.dual_adjust.proofs.lowering.pays_two_tight.Goals.{then-pays_tight+else-paid, else-pays_tight}
 
 pub loop-lane-init : goal.loop-lane-init
 loop-lane-init c =
-    let walk = walk_of _ _ c.instance.ensures c.custs-custs.ensures.valid c.requires.order c.requires.customer c.lanes-lane-items.ensures.exact c.lanes-lane-items.ensures.known c.lanes-lane-items.ensures.rising in
-    nothing_seen (pays_tight c.args.boxed.now.instance c.args.boxed.now.path c.args.duals.now c.args.order.now c.args.cust c.lanes-lane-items.result.now walk)
-    (site_of c.args.boxed.now.instance c.args.boxed.now.path c.args.duals.now c.args.order.now c.args.cust c.lanes-lane-items.result.now walk)
+    let walk = c.lanes_of-lane-items.ensures in
+    nothing_seen (pays_tight c.args.boxed.now.instance c.args.boxed.now.path c.args.duals.now c.args.order.now c.args.cust c.lanes_of-lane-items.result.now walk)
+    (site_of c.args.boxed.now.instance c.args.boxed.now.path c.args.duals.now c.args.order.now c.args.cust c.lanes_of-lane-items.result.now walk)
 
 pub is_dear-requires-clause-cost : goal.is_dear-requires-clause-cost
-is_dear-requires-clause-cost c =
-    let walk = walk_of _ _ c.instance.ensures c.custs-custs.ensures.valid c.requires.order c.requires.customer c.lanes-lane-items.ensures.exact c.lanes-lane-items.ensures.known c.lanes-lane-items.ensures.rising in
-    rank_is_small _ c.args.boxed.now.path c.args.duals.now _ _ _ walk c.loop-lane.lane-index c.loop-lane-test.true
+is_dear-requires-clause-cost c = rank_is_small _ c.args.boxed.now.path c.args.duals.now _ _ _ c.lanes_of-lane-items.ensures c.loop-lane.lane-index c.loop-lane-test.true
 
 pub returns-then-is_dear : goal.returns-then-is_dear
 returns-then-is_dear c =
-    let walk = walk_of _ _ c.instance.ensures c.custs-custs.ensures.valid c.requires.order c.requires.customer c.lanes-lane-items.ensures.exact c.lanes-lane-items.ensures.known c.lanes-lane-items.ensures.rising in
+    let walk = c.lanes_of-lane-items.ensures in
     let I = c.args.boxed.now.instance in
     let path = c.args.boxed.now.path in
     let d = c.args.duals.now in
     let j = c.args.cust in
-    let lanes = c.lanes-lane-items.result.now in
+    let lanes = c.lanes_of-lane-items.result.now in
     let k = c.loop-lane.lane-index in
     let passes = pays_tight I path d c.args.order.now j lanes walk in
     let at = site_of I path d c.args.order.now j lanes walk in
@@ -34,23 +32,19 @@ returns-then-is_dear c =
     sym (no_second_lane I path d c.args.order.now j lanes walk c.loop-lane.paid (seen_on passes at c.loop-lane.paid k (length lanes) c.loop-lane.invariant unpaid (omega arith)))
 
 pub pays_tight-requires-clause-lane : goal.pays_tight-requires-clause-lane
-pays_tight-requires-clause-lane c =
-    let walk = walk_of _ _ c.instance.ensures c.custs-custs.ensures.valid c.requires.order c.requires.customer c.lanes-lane-items.ensures.exact c.lanes-lane-items.ensures.known c.lanes-lane-items.ensures.rising in
-    rank_is_lane _ c.args.boxed.now.path c.args.duals.now _ _ _ walk c.loop-lane.lane-index c.loop-lane-test.true
+pays_tight-requires-clause-lane c = rank_is_lane _ c.args.boxed.now.path c.args.duals.now _ _ _ c.lanes_of-lane-items.ensures c.loop-lane.lane-index c.loop-lane-test.true
 
 pub pays_tight-requires-clause-small : goal.pays_tight-requires-clause-small
-pays_tight-requires-clause-small c =
-    let walk = walk_of _ _ c.instance.ensures c.custs-custs.ensures.valid c.requires.order c.requires.customer c.lanes-lane-items.ensures.exact c.lanes-lane-items.ensures.known c.lanes-lane-items.ensures.rising in
-    rank_is_small _ c.args.boxed.now.path c.args.duals.now _ _ _ walk c.loop-lane.lane-index c.loop-lane-test.true
+pays_tight-requires-clause-small c = rank_is_small _ c.args.boxed.now.path c.args.duals.now _ _ _ c.lanes_of-lane-items.ensures c.loop-lane.lane-index c.loop-lane-test.true
 
 pub returns-then-paid : goal.returns-then-paid
 returns-then-paid c =
-    let walk = walk_of _ _ c.instance.ensures c.custs-custs.ensures.valid c.requires.order c.requires.customer c.lanes-lane-items.ensures.exact c.lanes-lane-items.ensures.known c.lanes-lane-items.ensures.rising in
+    let walk = c.lanes_of-lane-items.ensures in
     let I = c.args.boxed.now.instance in
     let path = c.args.boxed.now.path in
     let d = c.args.duals.now in
     let j = c.args.cust in
-    let lanes = c.lanes-lane-items.result.now in
+    let lanes = c.lanes_of-lane-items.result.now in
     let k = c.loop-lane.lane-index in
     let passes = pays_tight I path d c.args.order.now j lanes walk in
     let at = site_of I path d c.args.order.now j lanes walk in
@@ -59,12 +53,12 @@ returns-then-paid c =
 
 pub loop-lane-preserved : goal.loop-lane-preserved
 loop-lane-preserved c =
-    let walk = walk_of _ _ c.instance.ensures c.custs-custs.ensures.valid c.requires.order c.requires.customer c.lanes-lane-items.ensures.exact c.lanes-lane-items.ensures.known c.lanes-lane-items.ensures.rising in
+    let walk = c.lanes_of-lane-items.ensures in
     let I = c.args.boxed.now.instance in
     let path = c.args.boxed.now.path in
     let d = c.args.duals.now in
     let j = c.args.cust in
-    let lanes = c.lanes-lane-items.result.now in
+    let lanes = c.lanes_of-lane-items.result.now in
     let k = c.loop-lane.lane-index in
     let passes = pays_tight I path d c.args.order.now j lanes walk in
     let at = site_of I path d c.args.order.now j lanes walk in
@@ -75,12 +69,12 @@ loop-lane-preserved c =
 
 pub returns : goal.returns
 returns c =
-    let walk = walk_of _ _ c.instance.ensures c.custs-custs.ensures.valid c.requires.order c.requires.customer c.lanes-lane-items.ensures.exact c.lanes-lane-items.ensures.known c.lanes-lane-items.ensures.rising in
+    let walk = c.lanes_of-lane-items.ensures in
     let I = c.args.boxed.now.instance in
     let path = c.args.boxed.now.path in
     let d = c.args.duals.now in
     let j = c.args.cust in
-    let lanes = c.lanes-lane-items.result.now in
+    let lanes = c.lanes_of-lane-items.result.now in
     let k = c.loop-lane.lane-index in
     let passes = pays_tight I path d c.args.order.now j lanes walk in
     let at = site_of I path d c.args.order.now j lanes walk in

@@ -13,21 +13,19 @@ use Rattle.dual_ascent.specs.declared.looking.Outlook.{Outlook}
 use Rattle.dual_value.proofs.Payments.{value_small}
 use Rattle.dual_ascent.proofs.Sized.{scaled_bits, scaled_size, value_bits}
 use Rattle.dual_ascent.proofs.Offers.{offer_kept}
-use Rattle.dual_ascent.proofs.Walked.{IsWalk, IsPassed, walk_of}
+use Rattle.dual_ascent.proofs.Walked.{IsPassed}
 use Rattle.dual_ascent.proofs.Looked.{IsLeastOver, blocked_by_spent, barred_next, offer_next, cut_at, at_end}
 use Rattle.dual_ascent.proofs.looking.look.Goals as goal
 use Rattle.dual_ascent.proofs.looking.look.Goals.{in-Barred, in-UpTo}
 
 pub scaled-requires : goal.scaled-requires
-scaled-requires c =
-    let walk : IsWalk c.args.boxed.now.instance c.args.cust c.lanes-lanes.result.now = walk_of c.args.boxed.now.instance c.requires.valid c.args.order.now c.requires.order c.args.cust c.requires.customer c.lanes-lanes.result.now c.lanes-lanes.ensures.exact c.lanes-lanes.ensures.known c.lanes-lanes.ensures.rising in
-    walk.small c.loop-lane.lane-index (record { cost = 0; site = 0 }) c.loop-lane-test.true
+scaled-requires c = c.lanes_of-lanes.ensures.walk.small c.loop-lane.lane-index (record { cost = 0; site = 0 }) c.loop-lane-test.true
 
 pub is_within-requires-clause-level : goal.is_within-requires-clause-level
 is_within-requires-clause-level c =
-    let walk : IsWalk c.args.boxed.now.instance c.args.cust c.lanes-lanes.result.now = walk_of c.args.boxed.now.instance c.requires.valid c.args.order.now c.requires.order c.args.cust c.requires.customer c.lanes-lanes.result.now c.lanes-lanes.ensures.exact c.lanes-lanes.ensures.known c.lanes-lanes.ensures.rising in
+    let walk = c.lanes_of-lanes.ensures.walk in
     let e : PlacedLane = record { cost = 0; site = 0 } in
-    scaled_size c.scaled.result c.q-q.result (get_or c.lanes-lanes.result.now c.loop-lane.lane-index e).cost c.scaled.ensures (omega (arith, c.q-q.ensures, c.requires.fit.in_limits.scale)) (walk.small c.loop-lane.lane-index e c.loop-lane-test.true)
+    scaled_size c.scaled.result c.q-q.result (get_or c.lanes_of-lanes.result.now c.loop-lane.lane-index e).cost c.scaled.ensures (omega (arith, c.q-q.ensures, c.requires.fit.in_limits.scale)) (walk.small c.loop-lane.lane-index e c.loop-lane-test.true)
 
 pub is_within-requires-clause-value : goal.is_within-requires-clause-value
 is_within-requires-clause-value c =
@@ -40,9 +38,9 @@ returns-then-is_within c =
     let path = c.args.boxed.now.path in
     let d = c.args.duals.now in
     let j = c.args.cust in
-    let lanes = c.lanes-lanes.result.now in
+    let lanes = c.lanes_of-lanes.result.now in
     let k = c.loop-lane.lane-index in
-    let walk : IsWalk I j lanes = walk_of c.args.boxed.now.instance c.requires.valid c.args.order.now c.requires.order c.args.cust c.requires.customer c.lanes-lanes.result.now c.lanes-lanes.ensures.exact c.lanes-lanes.ensures.known c.lanes-lanes.ensures.rising in
+    let walk = c.lanes_of-lanes.ensures.walk in
     let e : PlacedLane = record { cost = 0; site = 0 } in
     let scale : c.q-q.result ≤ MAX_SCALE = omega (arith, c.q-q.ensures, c.requires.fit.in_limits.scale) in
     let level : to_z w128 (of_z w128 c.scaled.result) ≡ pos (d.q * (get_or lanes k e).cost) = scaled_bits c.scaled.result c.q-q.result (get_or lanes k e).cost c.scaled.ensures scale (walk.small k e c.loop-lane-test.true) ∙ ap (λ q. pos (q * (get_or lanes k e).cost)) c.q-q.ensures in
@@ -53,9 +51,7 @@ returns-then-is_within c =
     subst (λ (o : Outlook). IsOutlook I path d j o) (sym c.shown.ensures) (cut_at I path d j lanes walk c.loop-lane.least k e c.loop-lane-test.true c.loop-lane.invariant far_here)
 
 pub offered-requires-clause-lane : goal.offered-requires-clause-lane
-offered-requires-clause-lane c =
-    let walk : IsWalk c.args.boxed.now.instance c.args.cust c.lanes-lanes.result.now = walk_of c.args.boxed.now.instance c.requires.valid c.args.order.now c.requires.order c.args.cust c.requires.customer c.lanes-lanes.result.now c.lanes-lanes.ensures.exact c.lanes-lanes.ensures.known c.lanes-lanes.ensures.rising in
-    walk.is_lane c.loop-lane.lane-index (record { cost = 0; site = 0 }) c.loop-lane-test.true
+offered-requires-clause-lane c = c.lanes_of-lanes.ensures.walk.is_lane c.loop-lane.lane-index (record { cost = 0; site = 0 }) c.loop-lane-test.true
 
 pub returns-in-Blocks : goal.returns-in-Blocks
 returns-in-Blocks c =
@@ -63,10 +59,10 @@ returns-in-Blocks c =
     let path = c.args.boxed.now.path in
     let d = c.args.duals.now in
     let j = c.args.cust in
-    let walk : IsWalk I j c.lanes-lanes.result.now = walk_of c.args.boxed.now.instance c.requires.valid c.args.order.now c.requires.order c.args.cust c.requires.customer c.lanes-lanes.result.now c.lanes-lanes.ensures.exact c.lanes-lanes.ensures.known c.lanes-lanes.ensures.rising in
+    let walk = c.lanes_of-lanes.ensures.walk in
     let e : PlacedLane = record { cost = 0; site = 0 } in
     let k = c.loop-lane.lane-index in
-    let i = (get_or c.lanes-lanes.result.now k e).site in
+    let i = (get_or c.lanes_of-lanes.result.now k e).site in
     let offer = c.in-Blocks.ensures in
     let reached : IsReached I path d j i = record { within = walk.within k e c.loop-lane-test.true; allowed = offer.0; under = offer.1 } in
     (blocked_by_spent I path d j i reached offer.2, reached)
@@ -77,9 +73,9 @@ loop-lane-preserved c =
     let path = c.args.boxed.now.path in
     let d = c.args.duals.now in
     let j = c.args.cust in
-    let lanes = c.lanes-lanes.result.now in
+    let lanes = c.lanes_of-lanes.result.now in
     let k = c.loop-lane.lane-index in
-    let walk : IsWalk I j lanes = walk_of c.args.boxed.now.instance c.requires.valid c.args.order.now c.requires.order c.args.cust c.requires.customer c.lanes-lanes.result.now c.lanes-lanes.ensures.exact c.lanes-lanes.ensures.known c.lanes-lanes.ensures.rising in
+    let walk = c.lanes_of-lanes.ensures.walk in
     let e : PlacedLane = record { cost = 0; site = 0 } in
     let After : Option ℤ → Type 0 = IsLeastOver I path d j (IsPassed lanes (k + 1)) in
     elim c.match-offered.branch [
@@ -99,8 +95,8 @@ returns c =
     let path = c.args.boxed.now.path in
     let d = c.args.duals.now in
     let j = c.args.cust in
-    let lanes = c.lanes-lanes.result.now in
-    let walk : IsWalk I j lanes = walk_of c.args.boxed.now.instance c.requires.valid c.args.order.now c.requires.order c.args.cust c.requires.customer c.lanes-lanes.result.now c.lanes-lanes.ensures.exact c.lanes-lanes.ensures.known c.lanes-lanes.ensures.rising in
+    let lanes = c.lanes_of-lanes.result.now in
+    let walk = c.lanes_of-lanes.ensures.walk in
     let all : c.loop-lane.lane-index ≡ length lanes = omega arith in
     let known : IsLeastOver I path d j (IsPassed lanes (length lanes)) c.loop-lane.least = subst (λ k. IsLeastOver I path d j (IsPassed lanes k) c.loop-lane.least) all c.loop-lane.invariant in
     subst (λ (o : Outlook). IsOutlook I path d j o) (sym c.shown-2.ensures) (at_end I path d j lanes walk c.loop-lane.least known)

@@ -9,7 +9,7 @@ use Rattle.location_terms.specs.declared.limits.TheConstants.{MAX_SCALE}
 use Rattle.lane_order.specs.declared.order.PlacedLane.{PlacedLane}
 use Rattle.dual_ascent.specs.Ascent.{lesser}
 use Rattle.dual_ascent.proofs.Sized.{scaled_bits, scaled_size, level_is}
-use Rattle.dual_ascent.proofs.Walked.{IsWalk, IsPassed, walk_of}
+use Rattle.dual_ascent.proofs.Walked.{IsPassed}
 use Rattle.dual_ascent.proofs.Seated.{IsLeastOf, barred_passed, level_passed, level_cut, level_end}
 use Rattle.dual_ascent.proofs.seating.least_level.Goals as goal
 use Rattle.dual_ascent.proofs.seating.least_level.Goals.{then-admits, else-admits}
@@ -20,8 +20,8 @@ scaled-requires c =
     let path = c.args.boxed.now.path in
     let d = c.args.duals.now in
     let j = c.args.cust in
-    let lanes = c.lanes-lanes.result.now in
-    let walk : IsWalk I j lanes = walk_of c.args.boxed.now.instance c.requires.valid c.args.order.now c.requires.order c.args.cust c.requires.customer c.lanes-lanes.result.now c.lanes-lanes.ensures.exact c.lanes-lanes.ensures.known c.lanes-lanes.ensures.rising in
+    let lanes = c.lanes_of-lanes.result.now in
+    let walk = c.lanes_of-lanes.ensures.walk in
     walk.small c.loop-lane.lane-index (record { cost = 0; site = 0 }) c.loop-lane-test.true
 
 pub is_within-requires-clause-level : goal.is_within-requires-clause-level
@@ -30,8 +30,8 @@ is_within-requires-clause-level c =
     let path = c.args.boxed.now.path in
     let d = c.args.duals.now in
     let j = c.args.cust in
-    let lanes = c.lanes-lanes.result.now in
-    let walk : IsWalk I j lanes = walk_of c.args.boxed.now.instance c.requires.valid c.args.order.now c.requires.order c.args.cust c.requires.customer c.lanes-lanes.result.now c.lanes-lanes.ensures.exact c.lanes-lanes.ensures.known c.lanes-lanes.ensures.rising in
+    let lanes = c.lanes_of-lanes.result.now in
+    let walk = c.lanes_of-lanes.ensures.walk in
     let k = c.loop-lane.lane-index in
     let e : PlacedLane = record { cost = 0; site = 0 } in
     scaled_size c.scaled.result c.q-q.result (get_or lanes k e).cost c.scaled.ensures (omega (arith, c.q-q.ensures, c.requires.fit.in_limits.scale)) (walk.small k e c.loop-lane-test.true)
@@ -42,8 +42,8 @@ returns-then-is_within c =
     let path = c.args.boxed.now.path in
     let d = c.args.duals.now in
     let j = c.args.cust in
-    let lanes = c.lanes-lanes.result.now in
-    let walk : IsWalk I j lanes = walk_of c.args.boxed.now.instance c.requires.valid c.args.order.now c.requires.order c.args.cust c.requires.customer c.lanes-lanes.result.now c.lanes-lanes.ensures.exact c.lanes-lanes.ensures.known c.lanes-lanes.ensures.rising in
+    let lanes = c.lanes_of-lanes.result.now in
+    let walk = c.lanes_of-lanes.ensures.walk in
     let k = c.loop-lane.lane-index in
     let e : PlacedLane = record { cost = 0; site = 0 } in
     let scale : c.q-q.result ≤ MAX_SCALE = omega (arith, c.q-q.ensures, c.requires.fit.in_limits.scale) in
@@ -57,8 +57,8 @@ admits-requires-clause-lane c =
     let path = c.args.boxed.now.path in
     let d = c.args.duals.now in
     let j = c.args.cust in
-    let lanes = c.lanes-lanes.result.now in
-    let walk : IsWalk I j lanes = walk_of c.args.boxed.now.instance c.requires.valid c.args.order.now c.requires.order c.args.cust c.requires.customer c.lanes-lanes.result.now c.lanes-lanes.ensures.exact c.lanes-lanes.ensures.known c.lanes-lanes.ensures.rising in
+    let lanes = c.lanes_of-lanes.result.now in
+    let walk = c.lanes_of-lanes.ensures.walk in
     let k = c.loop-lane.lane-index in
     let e : PlacedLane = record { cost = 0; site = 0 } in
     ap (λ (o : Option ℕ). is_some o) (walk.is_lane k e c.loop-lane-test.true)
@@ -69,8 +69,8 @@ level-requires-clause-cost c =
     let path = c.args.boxed.now.path in
     let d = c.args.duals.now in
     let j = c.args.cust in
-    let lanes = c.lanes-lanes.result.now in
-    let walk : IsWalk I j lanes = walk_of c.args.boxed.now.instance c.requires.valid c.args.order.now c.requires.order c.args.cust c.requires.customer c.lanes-lanes.result.now c.lanes-lanes.ensures.exact c.lanes-lanes.ensures.known c.lanes-lanes.ensures.rising in
+    let lanes = c.lanes_of-lanes.result.now in
+    let walk = c.lanes_of-lanes.ensures.walk in
     walk.small c.loop-lane.lane-index (record { cost = 0; site = 0 }) c.loop-lane-test.true
 
 pub loop-lane-preserved : goal.loop-lane-preserved
@@ -79,8 +79,8 @@ loop-lane-preserved c =
     let path = c.args.boxed.now.path in
     let d = c.args.duals.now in
     let j = c.args.cust in
-    let lanes = c.lanes-lanes.result.now in
-    let walk : IsWalk I j lanes = walk_of c.args.boxed.now.instance c.requires.valid c.args.order.now c.requires.order c.args.cust c.requires.customer c.lanes-lanes.result.now c.lanes-lanes.ensures.exact c.lanes-lanes.ensures.known c.lanes-lanes.ensures.rising in
+    let lanes = c.lanes_of-lanes.result.now in
+    let walk = c.lanes_of-lanes.ensures.walk in
     let k = c.loop-lane.lane-index in
     let e : PlacedLane = record { cost = 0; site = 0 } in
     let After : Option ℤ → Type 0 = IsLeastOf I path d j (IsPassed lanes (k + 1)) in
@@ -103,7 +103,7 @@ returns c =
     let path = c.args.boxed.now.path in
     let d = c.args.duals.now in
     let j = c.args.cust in
-    let lanes = c.lanes-lanes.result.now in
-    let walk : IsWalk I j lanes = walk_of c.args.boxed.now.instance c.requires.valid c.args.order.now c.requires.order c.args.cust c.requires.customer c.lanes-lanes.result.now c.lanes-lanes.ensures.exact c.lanes-lanes.ensures.known c.lanes-lanes.ensures.rising in
+    let lanes = c.lanes_of-lanes.result.now in
+    let walk = c.lanes_of-lanes.ensures.walk in
     let all : c.loop-lane.lane-index ≡ length lanes = omega arith in
     level_end I path d j lanes walk c.loop-lane.least (subst (λ k. IsLeastOf I path d j (IsPassed lanes k) c.loop-lane.least) all c.loop-lane.invariant)
