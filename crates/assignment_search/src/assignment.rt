@@ -54,6 +54,16 @@ impl Assignment {
         Ok(())
     }
 
+    /// Assigns the customers to sites that are opened in the box, each to the one that is named for it, by
+    /// place, as far as there is room. It fails only where memory runs out.
+    pub(crate) fn seat(&mut self, boxed: &PreparedBox, named: &[usize]) -> Result<(), NoMemory> {
+        self.table.fill(boxed)?;
+        self.now.take(boxed, &[])?;
+        self.now.seat(&self.table, named);
+        self.now.assign(&self.table);
+        Ok(())
+    }
+
     /// Whether the site at place `site` is open.
     pub(crate) fn is_open(&self, site: usize) -> bool {
         self.now.is_open(site)

@@ -14,7 +14,7 @@ mod state;
 mod within;
 
 pub use assignment::Assignment;
-pub use proposing::assigned_plan;
+pub use proposing::{assigned_plan, seated_plan};
 
 #[cfg(test)]
 mod tests;

@@ -23,6 +23,30 @@ pub fn assigned_plan(
     ensures in_box { IfOk result (λ plan. IfSome plan (λ P. IsInBox P boxed.now.path)) }
 {
     work.search(boxed, flags)?;
+    found(alloc, boxed, work)
+}
+
+/// A plan in the box that opens just the sites which are opened there: each customer is served from the site
+/// that is named for it, by place, as far as there is room, and the others are assigned beside them. None is
+/// given where none was found. It fails only where memory runs out.
+pub fn seated_plan(
+    alloc: Global,
+    boxed: &PreparedBox,
+    work: &mut Assignment,
+    named: &[usize],
+) -> Result<Option<Plan>, NoMemory>
+    ensures feasible { IfOk result (λ plan. IfSome plan (IsFeasible boxed.now.instance)) }
+    ensures in_box { IfOk result (λ plan. IfSome plan (λ P. IsInBox P boxed.now.path)) }
+{
+    work.seat(boxed, named)?;
+    found(alloc, boxed, work)
+}
+
+// What the search found, where it is a plan in the box.
+fn found(alloc: Global, boxed: &PreparedBox, work: &Assignment) -> Result<Option<Plan>, NoMemory>
+    ensures feasible { IfOk result (λ plan. IfSome plan (IsFeasible boxed.now.instance)) }
+    ensures in_box { IfOk result (λ plan. IfSome plan (λ P. IsInBox P boxed.now.path)) }
+{
     let sites = open_ids(alloc, boxed.instance(), work)?;
     let serves = services(alloc, boxed.instance(), work)?;
     Ok(judged(boxed, Plan::new(sites, serves)))

@@ -1,6 +1,6 @@
 //! Sites and customers while a search assigns them.
 
-use crate::assigned::{Service, SiteRoom, Worth, whole_room, worth_of};
+use crate::assigned::{Service, SiteRoom, Worth, serve, whole_room, worth_of};
 use crate::lane_table::LaneTable;
 use crate::opening::{Change, make_change};
 use crate::promise::{look_around, may_be_better};
@@ -53,7 +53,19 @@ impl State {
         }
     }
 
-    /// Assigns all customers from nothing.
+    /// Serves each customer from the site that is named for it, by place, where there is room.
+    pub(crate) fn seat(&mut self, table: &LaneTable, named: &[usize]) {
+        for cust in 0..self.custs.len().min(named.len()) {
+            let site = named[cust];
+            if site < self.sites.len() && self.sites[site].has_room(self.custs[cust].demand) {
+                if let Some(cost) = table.cost(cust, site) {
+                    serve(&mut self.sites, &mut self.custs, cust, site, cost);
+                }
+            }
+        }
+    }
+
+    /// Assigns all customers whom no site serves.
     pub(crate) fn assign(&mut self, table: &LaneTable) {
         let pushes = self.custs.len().saturating_mul(4);
         assign(table, &mut self.sites, &mut self.custs, pushes);

@@ -1,6 +1,7 @@
 use super::*;
 use dual_value::{Path, PreparedBox};
-use instance_store::{CustId, CustRow, Instance, LaneRow, NoMemory, SiteId, SiteRow};
+use example_instances::{customer, site};
+use instance_store::{CustId, Instance, LaneRow, NoMemory, SiteId};
 use location_terms::Decision;
 use plan_meaning::Plan;
 use std::alloc::Global;
@@ -12,32 +13,13 @@ fn pair(alloc: Global) -> Result<Instance, NoMemory> {
     let near = LaneRow::from_slice(alloc, &[Some(1_000_000), Some(1_000_000), Some(0)])?;
     let far = LaneRow::from_slice(alloc, &[Some(2_000_000), Some(9_000_000), Some(9_000_000)])?;
     let sites = vec![in alloc;
-        SiteRow {
-            id: SiteId::new(1),
-            fixed: 5_000_000,
-            cap: Some(6_000_000),
-            lanes: near
-        },
-        SiteRow {
-            id: SiteId::new(2),
-            fixed: 3_000_000,
-            cap: Some(6_000_000),
-            lanes: far
-        },
+        site(1, 5_000_000, Some(6_000_000), near),
+        site(2, 3_000_000, Some(6_000_000), far),
     ]?;
     let custs = vec![in alloc;
-        CustRow {
-            id: CustId::new(1),
-            demand: 4_000_000
-        },
-        CustRow {
-            id: CustId::new(2),
-            demand: 3_000_000
-        },
-        CustRow {
-            id: CustId::new(3),
-            demand: 3_000_000
-        },
+        customer(1, 4_000_000),
+        customer(2, 3_000_000),
+        customer(3, 3_000_000),
     ]?;
     Instance::from_parts(alloc, 0, 2, 3, 4, custs, sites)
 }

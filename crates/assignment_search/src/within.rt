@@ -10,12 +10,7 @@ use plan_meaning::Plan;
 pub(crate) fn is_in_box(plan: &Plan, path: &Path) -> bool
     ensures { IsTrue result ↔ IsInBox plan.now path.now }
 {
-    for step in path.as_slice() {
-        if !is_kept(plan, step) {
-            return false;
-        }
-    }
-    true
+    path.as_slice().iter().all(|step| is_kept(plan, step))
 }
 
 fn is_kept(plan: &Plan, step: &Decision) -> bool

@@ -26,7 +26,7 @@ use Rattle.plan_search.proofs.Taken.{AreTaken, IsCheapestLane, is_takeable, all_
 use Rattle.plan_search.proofs.PlanOf.{server_of, of_server, sum_served}
 use Rattle.plan_search.proofs.Feasible.{names, names_rise, packs, are_taken, packed_feasible, packed_in_box}
 
-called_or_closed : (called closed : Bool) → (not called && not closed) ≡ false → closed ≡ false → called ≡ true
+pub called_or_closed : (called closed : Bool) → (not called && not closed) ≡ false → closed ≡ false → called ≡ true
 called_or_closed true closed e f = refl
 called_or_closed false true e f = cc
 called_or_closed false false e f = cc

@@ -1,6 +1,6 @@
 -- A plan that packing gives is feasible, and in the box.
 use Rattle.std.proofs.Common.{◌≡◌, ℕ, ◌<◌, ◌≤◌, Bool, true, false, cond, List, [], map, length, get_or, Option, None, Some, option_map, refl, sym, ap, subst, inl, inr, ◌∙◌, arith}
-use Rattle.std.specs.Prelude.{Contains, All, IsSome, IfSome, is_some, ◌&&◌, ◌||◌, not, nat_le}
+use Rattle.std.specs.Prelude.{Contains, All, IsSome, IfSome, is_some, ◌&&◌, ◌||◌, nat_le}
 use Rattle.std.specs.List.{list_any}
 use Rattle.std.specs.List.Sorted.{IsStrictlyIncreasing}
 use Rattle.std.proofs.lemmas.Bool.{and_parts, and_from, leb-true, eq-eqb, ne_eqb, or_left, or_right, both_ways, false_from_ne_true, cases_eq, not_from_false}
@@ -17,6 +17,7 @@ use Rattle.location_terms.specs.Plan.{Plan, IsPlan, IsFeasible, KeepsStatus, loa
 use Rattle.location_terms.specs.Box.{Path, IsKept, IsInBox, closes_site, opens_site, bars_lane, must_open, must_close, is_closed, is_called_for, is_opened, is_torn, is_allowed, holds_demand}
 use Rattle.location_terms.proofs.Places.{length-site_ids}
 use Rattle.location_terms.proofs.Rising.{place_of, one_place}
+use Rattle.dual_ascent.proofs.Walked.{lane_parts}
 use Rattle.dual_adjust.proofs.IdsRise.{picked_rise, sites_rise}
 use Rattle.plan_meaning.proofs.Served.{once_by_places}
 use Rattle.plan_search.specs.InBox.{NamesKnown, IsPathOf}
@@ -25,21 +26,6 @@ use Rattle.plan_search.proofs.Among.{Contains-map}
 use Rattle.plan_search.proofs.OpenSites.{chosen_below, chosen_not_closed, called_chosen}
 use Rattle.plan_search.proofs.Taken.{AreTaken, none_taken, all_take}
 use Rattle.plan_search.proofs.PlanOf.{server_of, of_server, as_many_served, served_at, of_served, served_contained, load_is_taken}
-
--- what an allowed lane is
-allowed_parts : (torn some closed barred holds : Bool) → (not torn && some && not closed && not barred && holds) ≡ true → (torn ≡ false) × (some ≡ true) × (closed ≡ false) × (barred ≡ false) × (holds ≡ true)
-allowed_parts false true false false true e = (refl, refl, refl, refl, refl)
-allowed_parts true some closed barred holds e = cc
-allowed_parts false false closed barred holds e = cc
-allowed_parts false true true barred holds e = cc
-allowed_parts false true false true holds e = cc
-allowed_parts false true false false false e = cc
-
--- what the lane between two places is, where it is allowed
-pub lane_parts : (I : Instance) (path : Path) (i j : ℕ) → is_allowed I path (site_at I i) (customer_at I j) ≡ true
-    → (is_torn I path ≡ false) × (is_some (lane I (site_at I i).id (customer_at I j).id) ≡ true) × (is_closed path (site_at I i) ≡ false) × (list_any (bars_lane (site_at I i).id (customer_at I j).id) path ≡ false) × (holds_demand (site_at I i).cap (customer_at I j).demand ≡ true)
-lane_parts I path i j e =
-    allowed_parts (is_torn I path) (is_some (lane I (site_at I i).id (customer_at I j).id)) (is_closed path (site_at I i)) (list_any (bars_lane (site_at I i).id (customer_at I j).id) path) (holds_demand (site_at I i).cap (customer_at I j).demand) e
 
 some-is_some : (o : Option ℕ) → is_some o ≡ true → IsSome o
 some-is_some None e = cc

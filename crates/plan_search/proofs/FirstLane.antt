@@ -17,7 +17,7 @@ use Rattle.plan_search.specs.Flags.{is_set, flagged}
 use Rattle.plan_search.specs.Packing.{room_at, roomy}
 use Rattle.plan_search.proofs.Among.{passed, Contains-filter, place-contained, contained-place}
 use Rattle.plan_search.proofs.Picked.{IsCheapest, cheapest_is, cheapest_among, cheapest_some}
-use Rattle.plan_search.proofs.Feasible.{lane_parts}
+use Rattle.dual_ascent.proofs.Walked.{lane_parts}
 
 some_cost : (o : Option ℕ) → is_some o ≡ true → o ≡ Some (unwrap_or o 0)
 some_cost None e = cc

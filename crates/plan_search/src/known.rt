@@ -10,12 +10,7 @@ use instance_store::{CustId, Instance, SiteId};
 pub fn is_path_of(inst: &Instance, path: &Path) -> bool
     ensures { IsTrue result ↔ IsPathOf inst.now path.now }
 {
-    for step in path.as_slice() {
-        if !names_known(inst, step) {
-            return false;
-        }
-    }
-    true
+    path.as_slice().iter().all(|step| names_known(inst, step))
 }
 
 fn names_known(inst: &Instance, step: &Decision) -> bool

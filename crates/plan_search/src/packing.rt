@@ -66,12 +66,8 @@ fn plan_of(
     Ok(Plan::new(sites, serves))
 }
 
-/// The ids of the flagged sites. It fails only where memory runs out.
-pub(crate) fn open_sites(
-    alloc: Global,
-    inst: &Instance,
-    flags: &[bool],
-) -> Result<Vec<SiteId>, NoMemory>
+// The ids of the flagged sites.
+fn open_sites(alloc: Global, inst: &Instance, flags: &[bool]) -> Result<Vec<SiteId>, NoMemory>
     requires { length flags.now ≡ length inst.now.sites }
     ensures { IfOk result (λ sites. sites.items ≡ map (λ i. (site_at inst.now i).id) (flagged flags.now)) }
 {

@@ -1,18 +1,16 @@
 //! Good plans in a box.
-ghost use Rattle.std.specs.Prelude.{◌≡◌, ◌⊎◌, ◌<◌, ◌≤◌, length, map, IfOk, IfSome, IsNone, Some};
-ghost use Rattle.location_terms.specs.Instance.{site_at};
+ghost use Rattle.std.specs.Prelude.{◌≡◌, ◌⊎◌, ◌<◌, ◌≤◌, IfOk, IfSome, Some};
 ghost use Rattle.location_terms.specs.Plan.{IsFeasible, cost_of};
 ghost use Rattle.location_terms.specs.Box.{IsInBox};
 ghost use Rattle.lane_order.specs.Order.{IsOrderOf};
 ghost use Rattle.plan_search.specs.InBox.{IsPathOf, HasNoCaps, SettlesSites, IsNoWorse, IsBestIn};
 ghost use Rattle.plan_search.specs.Packed.{packed};
-ghost use Rattle.plan_search.specs.Flags.{flagged};
 
 use crate::caps::has_no_caps;
 use crate::chosen::chosen;
 use crate::local::LocalSearch;
-use crate::packing::{open_sites, pack};
-use assignment_search::assigned_plan;
+use crate::packing::pack;
+use assignment_search::{assigned_plan, seated_plan};
 use dual_value::{Path, PreparedBox};
 use instance_store::{Instance, NoMemory, SiteId};
 use lane_order::LaneOrder;
@@ -56,8 +54,10 @@ fn best_in(
     ensures packed { IfOk result (λ plan. IsNoWorse boxed.now.instance plan (packed boxed.now.instance boxed.now.path hint.now)) }
     ensures cheapest { HasNoCaps boxed.now.instance → SettlesSites boxed.now.instance boxed.now.path → IfOk result (IsBestIn boxed.now.instance boxed.now.path) }
 {
+    let flags = chosen(alloc, boxed, hint)?;
+    let mut work = LocalSearch::of(alloc, boxed.instance())?;
+    let found = improved_set(alloc, boxed, order, &mut work, &flags, None)?;
     let packed = packed_in(alloc, boxed, order, hint)?;
-    let found = found_near(alloc, boxed, order, hint)?;
     Ok(cheaper(boxed, packed, found))
 }
 
@@ -80,34 +80,13 @@ pub fn packed_in(
     Ok(plan)
 }
 
-// A plan in the box that is sought from the sites that packing opens for the hint. It fails only where
-// memory runs out.
-fn found_near(
-    alloc: Global,
-    boxed: &PreparedBox,
-    order: &LaneOrder,
-    hint: &[SiteId],
-) -> Result<Option<Plan>, NoMemory>
-    requires order { IsOrderOf order.now boxed.now.instance }
-    requires path { IsPathOf boxed.now.instance boxed.now.path }
-    ensures feasible { IfOk result (λ plan. IfSome plan (IsFeasible boxed.now.instance)) }
-    ensures in_box { IfOk result (λ plan. IfSome plan (λ P. IsInBox P boxed.now.path)) }
-{
-    let flags = chosen(alloc, boxed, hint)?;
-    let mut work = LocalSearch::of(alloc, boxed.instance())?;
-    let plan = found(alloc, boxed, order, &mut work, &flags, None)?;
-    Ok(plan)
-}
-
 /// A plan in the box that is sought from a set of open sites: the free sites that are flagged, by place,
 /// and those that are opened in the box. Sites are opened, closed and exchanged from there while that
 /// saves, and under capacities customers are assigned to the open ones. It is for sets of any size: too few
 /// or too many open sites are brought within the instance's count.
 ///
-/// With a limit the plan costs less than that many millionths. Without one it costs at most as much as what
-/// is packed for the flagged sites, and none is given only where none is packed.
-///
-/// It fails only where memory runs out.
+/// The plan is only proposed: that none is given says nothing of the box. With a limit it costs less than
+/// that many millionths. It fails only where memory runs out.
 pub fn improved_set(
     alloc: Global,
     boxed: &PreparedBox,
@@ -118,56 +97,47 @@ pub fn improved_set(
 ) -> Result<Option<Plan>, NoMemory>
     requires order { IsOrderOf order.now boxed.now.instance }
     requires path { IsPathOf boxed.now.instance boxed.now.path }
-    requires flags { length flags.now ≡ length boxed.now.instance.sites }
     ensures feasible { IfOk result (λ plan. IfSome plan (IsFeasible boxed.now.instance)) }
     ensures in_box { IfOk result (λ plan. IfSome plan (λ P. IsInBox P boxed.now.path)) }
     ensures limited { IfSome limit (λ most. IfOk result (λ plan. IfSome plan (λ P. cost_of boxed.now.instance P < most))) }
-    ensures packed { let I = boxed.now.instance in let hint = map (λ i. (site_at I i).id) (flagged flags.now) in
-        IsNone limit → IfOk result (λ plan. IsNoWorse I plan (packed I boxed.now.path hint)) }
 {
-    let plan = found(alloc, boxed, order, work, flags, limit)?;
-    match limit {
-        Some(limit) => Ok(below(boxed.instance(), plan, limit)),
-        None => {
-            let hint = open_sites(alloc, boxed.instance(), flags)?;
-            let packed = packed_in(alloc, boxed, order, &hint)?;
-            Ok(cheaper(boxed, packed, plan))
-        }
-    }
-}
-
-// A plan in the box that a search finds from the flagged sites. Where no site has a capacity, none is given
-// where the set found costs as much as the limit.
-fn found(
-    alloc: Global,
-    boxed: &PreparedBox,
-    order: &LaneOrder,
-    work: &mut LocalSearch,
-    flags: &[bool],
-    limit: Option<u64>,
-) -> Result<Option<Plan>, NoMemory>
-    requires order { IsOrderOf order.now boxed.now.instance }
-    requires path { IsPathOf boxed.now.instance boxed.now.path }
-    ensures feasible { IfOk result (λ plan. IfSome plan (IsFeasible boxed.now.instance)) }
-    ensures in_box { IfOk result (λ plan. IfSome plan (λ P. IsInBox P boxed.now.path)) }
-{
-    if !has_no_caps(boxed.instance()) {
-        return assigned_plan(alloc, boxed, &mut work.assignment, flags);
+    let inst = boxed.instance();
+    if !has_no_caps(inst) {
+        let plan = assigned_plan(alloc, boxed, &mut work.assignment, flags)?;
+        return Ok(below(inst, plan, limit));
     }
     work.search(boxed, order, flags)?;
     if work.cost() >= limit.unwrap_or(u64::MAX) {
         return Ok(None);
     }
-    let hint = work.open_sites(alloc, boxed.instance())?;
-    packed_in(alloc, boxed, order, &hint)
+    let hint = work.open_sites(alloc, inst)?;
+    let plan = packed_in(alloc, boxed, order, &hint)?;
+    Ok(below(inst, plan, limit))
 }
 
-// The feasible plan, where it costs less than this.
-fn below(inst: &Instance, plan: Option<Plan>, limit: u64) -> Option<Plan>
+/// A plan in a box without free sites, around a site that is named for each customer, by place. It is only
+/// proposed: that none is given says nothing of the box. It fails only where memory runs out.
+pub fn plan_around(
+    alloc: Global,
+    boxed: &PreparedBox,
+    work: &mut LocalSearch,
+    named: &[usize],
+) -> Result<Option<Plan>, NoMemory>
+    ensures { IfOk result (λ plan. IfSome plan (IsFeasible boxed.now.instance)) }
+{
+    let plan = seated_plan(alloc, boxed, &mut work.assignment, named)?;
+    Ok(plan)
+}
+
+// The feasible plan, where it costs less than the limit, if there is one.
+fn below(inst: &Instance, plan: Option<Plan>, limit: Option<u64>) -> Option<Plan>
     requires { IfSome plan (IsFeasible inst.now) }
     ensures same { IfSome result (λ P. plan ≡ Some P) }
-    ensures limited { IfSome result (λ P. cost_of inst.now P < limit) }
+    ensures limited { IfSome limit (λ most. IfSome result (λ P. cost_of inst.now P < most)) }
 {
+    let Some(limit) = limit else {
+        return plan;
+    };
     let _sites = inst.sites();
     let plan = plan?;
     if cost(inst, &plan) < limit {

@@ -1,12 +1,10 @@
-ghost use Rattle.std.specs.Prelude.{◌≤◌, IfOk};
-ghost use Rattle.location_terms.specs.declared.limits.TheConstants.{MAX_AMOUNT};
-
 use super::*;
 use dual_value::{Path, PreparedBox};
-use instance_store::{CustId, CustRow, Instance, LaneRow, NoMemory, SiteId, SiteRow, SiteStatus};
+use example_instances::{customer, road, site, warehouses};
+use instance_store::{CustId, Instance, LaneRow, NoMemory, SiteId, SiteStatus};
 use lane_order::LaneOrder;
-use location_terms::{Decision, MAX_AMOUNT};
-use plan_meaning::Plan;
+use location_terms::Decision;
+use plan_meaning::{Plan, judge};
 use std::alloc::Global;
 use std::test::Fail;
 
@@ -18,38 +16,14 @@ fn shelves(alloc: Global) -> Result<Instance, NoMemory> {
     let mid = LaneRow::from_slice(alloc, &[Some(2_000_000), Some(2_000_000), Some(2_000_000)])?;
     let far = LaneRow::from_slice(alloc, &[Some(9_000_000), None, Some(9_000_000)])?;
     let sites = vec![in alloc;
-        SiteRow {
-            id: SiteId::new(1),
-            fixed: 1_000_000,
-            cap: Some(5_000_000),
-            lanes: near
-        },
-        SiteRow {
-            id: SiteId::new(2),
-            fixed: 1_000_000,
-            cap: Some(5_000_000),
-            lanes: mid
-        },
-        SiteRow {
-            id: SiteId::new(3),
-            fixed: 1_000_000,
-            cap: None,
-            lanes: far
-        },
+        site(1, 1_000_000, Some(5_000_000), near),
+        site(2, 1_000_000, Some(5_000_000), mid),
+        site(3, 1_000_000, None, far),
     ]?;
     let custs = vec![in alloc;
-        CustRow {
-            id: CustId::new(1),
-            demand: 3_000_000
-        },
-        CustRow {
-            id: CustId::new(2),
-            demand: 3_000_000
-        },
-        CustRow {
-            id: CustId::new(3),
-            demand: 2_000_000
-        },
+        customer(1, 3_000_000),
+        customer(2, 3_000_000),
+        customer(3, 2_000_000),
     ]?;
     Instance::from_parts(alloc, 1, 2, 4, 4, custs, sites)
 }
@@ -76,51 +50,6 @@ fn is_plan(plan: &Plan, sites: &[u32], from: &[u32]) -> bool {
         && plan.serve_count() == from.len()
         && (0..sites.len()).all(|k| plan.site(k).number() == sites[k])
         && (0..from.len()).all(|k| plan.serve(k).1.number() == from[k])
-}
-
-// Three places on a road, 4 and 7 apart, with a site and a customer each, and from `lo` to `hi` open sites.
-fn road(alloc: Global, lo: u32, hi: u32, fixed: u64) -> Result<Instance, NoMemory>
-    requires count { (lo ≤ hi) × (hi ≤ 3) }
-    requires fixed { fixed ≤ MAX_AMOUNT }
-{
-    let left = LaneRow::from_slice(alloc, &[Some(0), Some(4_000_000), Some(11_000_000)])?;
-    let middle = LaneRow::from_slice(alloc, &[Some(4_000_000), Some(0), Some(7_000_000)])?;
-    let right = LaneRow::from_slice(alloc, &[Some(11_000_000), Some(7_000_000), Some(0)])?;
-    let sites = vec![in alloc;
-        SiteRow {
-            id: SiteId::new(1),
-            fixed,
-            cap: None,
-            lanes: left
-        },
-        SiteRow {
-            id: SiteId::new(2),
-            fixed,
-            cap: None,
-            lanes: middle
-        },
-        SiteRow {
-            id: SiteId::new(3),
-            fixed,
-            cap: None,
-            lanes: right
-        },
-    ]?;
-    let custs = vec![in alloc;
-        CustRow {
-            id: CustId::new(1),
-            demand: 0
-        },
-        CustRow {
-            id: CustId::new(2),
-            demand: 0
-        },
-        CustRow {
-            id: CustId::new(3),
-            demand: 0
-        },
-    ]?;
-    Instance::from_parts(alloc, lo, hi, 4, 4, custs, sites)
 }
 
 // What is seen in the box of these steps for this hint, where the steps name sites and customers of
@@ -152,6 +81,14 @@ fn is_seen(
 ) -> bool {
     match seen(alloc, inst, steps, hint) {
         Ok(Some(Some(plan))) => is_plan(&plan, sites, from),
+        _ => false,
+    }
+}
+
+// Whether a plan is seen for this hint that costs at most so much, in millionths.
+fn is_seen_within(alloc: Global, inst: &Instance, hint: &[u32], most: u64) -> bool {
+    match seen(alloc, inst, &[], hint) {
+        Ok(Some(Some(plan))) => judge(inst, &plan).is_ok_and(|cost| cost <= most),
         _ => false,
     }
 }
@@ -309,6 +246,14 @@ fn keeps_to_statuses(rt: HostRuntime) -> Result<(), Fail> {
 }
 
 #[test]
+fn sees_a_plan_without_a_hint(rt: HostRuntime) -> Result<(), Fail> {
+    let alloc = rt.alloc();
+    let inst = road(alloc, 1, 1, 0)?;
+    assert!(rt; is_seen_within(alloc, &inst, &[], 15_000_000));
+    Ok(())
+}
+
+#[test]
 fn exchanges_the_site_that_is_open(rt: HostRuntime) -> Result<(), Fail> {
     let alloc = rt.alloc();
     let inst = road(alloc, 1, 1, 0)?;
@@ -365,32 +310,13 @@ fn tight(alloc: Global) -> Result<Instance, NoMemory> {
     let near = LaneRow::from_slice(alloc, &[Some(1_000_000), Some(0), Some(0)])?;
     let far = LaneRow::from_slice(alloc, &[Some(2_000_000), Some(9_000_000), Some(9_000_000)])?;
     let sites = vec![in alloc;
-        SiteRow {
-            id: SiteId::new(1),
-            fixed: 0,
-            cap: Some(6_000_000),
-            lanes: near
-        },
-        SiteRow {
-            id: SiteId::new(2),
-            fixed: 0,
-            cap: Some(6_000_000),
-            lanes: far
-        },
+        site(1, 0, Some(6_000_000), near),
+        site(2, 0, Some(6_000_000), far),
     ]?;
     let custs = vec![in alloc;
-        CustRow {
-            id: CustId::new(1),
-            demand: 4_000_000
-        },
-        CustRow {
-            id: CustId::new(2),
-            demand: 3_000_000
-        },
-        CustRow {
-            id: CustId::new(3),
-            demand: 3_000_000
-        },
+        customer(1, 4_000_000),
+        customer(2, 3_000_000),
+        customer(3, 3_000_000),
     ]?;
     Instance::from_parts(alloc, 0, 2, 3, 4, custs, sites)
 }
@@ -406,37 +332,6 @@ fn finds_what_packing_does_not(rt: HostRuntime) -> Result<(), Fail> {
     assert!(rt; is_seen(alloc, &inst, &[], &[1], &[1, 2], &[2, 1, 1]));
     assert!(rt; is_sought(alloc, &inst, &[], &[false, false], &[1, 2], &[2, 1, 1]));
     Ok(())
-}
-
-// Two sites that hold 10 units each, and two customers with demands of 6 units.
-fn warehouses(alloc: Global) -> Result<Instance, NoMemory> {
-    let far = LaneRow::from_slice(alloc, &[Some(6_739_725_000), Some(3_000_000)])?;
-    let near = LaneRow::from_slice(alloc, &[Some(1_250_000), Some(4_000_000)])?;
-    let sites = vec![in alloc;
-        SiteRow {
-            id: SiteId::new(1),
-            fixed: 7_500_000_000,
-            cap: Some(10_000_000),
-            lanes: far
-        },
-        SiteRow {
-            id: SiteId::new(2),
-            fixed: 500_000,
-            cap: Some(10_000_000),
-            lanes: near
-        },
-    ]?;
-    let custs = vec![in alloc;
-        CustRow {
-            id: CustId::new(1),
-            demand: 6_000_000
-        },
-        CustRow {
-            id: CustId::new(2),
-            demand: 6_000_000
-        },
-    ]?;
-    Instance::from_parts(alloc, 0, 2, 3, 3, custs, sites)
 }
 
 #[test]

@@ -1,21 +1,17 @@
 -- What rises and rounds leave of the duals at work.
-use Rattle.std.proofs.Common.{◌≡◌, ℕ, zero, suc, ◌≤◌, refl, sym, subst, ◌∙◌, arith, Bool, true, false, ℤ, pos, ◌≤ℤ◌, ◌<ℤ◌}
-use Rattle.std.specs.Prelude.{◌*ℤ◌}
+use Rattle.std.proofs.Common.{◌≡◌, ℕ, ◌≤◌, refl, sym, subst, ◌∙◌, arith, Bool, true, false, ℤ, ◌≤ℤ◌}
 use Rattle.std.proofs.lemmas.Int.{by_lt_z, ints}
 use Rattle.location_terms.specs.Instance.{Instance}
 use Rattle.location_terms.specs.Box.{Path}
 use Rattle.location_terms.specs.Bound.{Duals, bound_of}
 use Rattle.dual_value.specs.Prepared.{Prepared}
 use Rattle.dual_value.specs.Scales.{IsGreater}
+use Rattle.dual_value.proofs.Sizes.{le_times}
 use Rattle.dual_ascent.specs.Kept.{Keeps}
 use Rattle.dual_adjust.specs.Present.{Present, HasAscended}
 use Rattle.dual_adjust.specs.Adjusted.{IsRiseAbove}
 use Rattle.side_multipliers.specs.Better.{IsNoWorse}
 use Rattle.side_multipliers.specs.Improved.{IsImproved}
-
-le_times : (n : ℕ) (x y : ℤ) → x ≤ℤ y → (pos n *ℤ x) ≤ℤ (pos n *ℤ y)
-le_times zero x y h = omega (arith, ints)
-le_times (suc n) x y h = omega (arith, ints, h, le_times n x y h)
 
 -- a greater bound at the same scale
 above : (q : ℕ) (x y : ℤ) → IsGreater y q x q → x ≤ℤ y

@@ -1,4 +1,4 @@
 pub mod Arrays
 pub mod Better
 pub mod Improved
-pub mod RoomArrays
+pub mod Transports

@@ -2,8 +2,6 @@
 ghost use Rattle.std.specs.Prelude.{◌≡◌, ◌<◌, length, IfOk};
 ghost use Rattle.lane_order.specs.Order.{IsOrderOf};
 
-use crate::payments::Demand;
-use crate::rooms::{Room, fits_beside};
 use dual_value::PreparedBox;
 use instance_store::NoMemory;
 use lane_order::{LaneOrder, PlacedLane};
@@ -54,21 +52,6 @@ impl BoxLanes {
         match self.ends.get(cust) {
             None => &[],
             Some(end) => self.lanes.get(self.start(cust)..*end).unwrap_or(&[]),
-        }
-    }
-
-    /// Leaves out the lanes whose site has no room for the customer beside what is loaded, but no customer's
-    /// single lane. Whether there were any.
-    pub(crate) fn keep_fitting(&mut self, demands: &[Demand], rooms: &[Room]) -> bool {
-        let before = self.count();
-        keep_all(&mut self.lanes, &mut self.ends, demands, rooms);
-        self.count() < before
-    }
-
-    fn count(&self) -> usize {
-        match self.ends.last() {
-            None => 0,
-            Some(end) => *end,
         }
     }
 }
@@ -124,38 +107,4 @@ fn allows(boxed: &PreparedBox<'_>, site: usize, cust: usize) -> bool
         None => false,
         Some(_) => boxed.admits(site, cust, inst.demand(cust)),
     }
-}
-
-fn keep_all(lanes: &mut [PlacedLane], ends: &mut [usize], demands: &[Demand], rooms: &[Room]) {
-    let mut start = 0;
-    let mut to = 0;
-    for j in 0..ends.len().min(demands.len()) {
-        let end = ends[j];
-        to = keep_own(lanes, start, end, to, demands[j].weight, rooms);
-        start = end;
-        ends[j] = to;
-    }
-}
-
-// Moves the lanes between two places that fit to the place `to`. The answer is the place behind them.
-fn keep_own(
-    lanes: &mut [PlacedLane],
-    start: usize,
-    end: usize,
-    to: usize,
-    weight: f64,
-    rooms: &[Room],
-) -> usize
-    ensures { length lanes.new ≡ length lanes.old }
-{
-    let is_single = end == start.saturating_add(1);
-    let mut place = to;
-    for k in start..end.min(lanes.len()) {
-        let lane = lanes[k];
-        if place < lanes.len() && (is_single || fits_beside(rooms, lane.site as usize, weight)) {
-            lanes[place] = lane;
-            place += 1;
-        }
-    }
-    place
 }

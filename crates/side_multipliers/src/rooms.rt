@@ -1,58 +1,84 @@
-//! The rooms of the sites, their prices, and what is loaded into them at these.
+//! The rooms of the sites in a box without free ones, and what is loaded into them.
 ghost use Rattle.std.specs.Prelude.{◌≡◌, ◌<◌, length};
 
-use crate::box_lanes::BoxLanes;
-use crate::payments::Demand;
-use dual_steps::customer::Products;
+use crate::room_lanes::RoomLane;
 use dual_value::{PreparedBox, SiteState};
 use instance_store::Instance;
-use lane_order::PlacedLane;
 use std::num::nearest_u64_to_f64;
 
-/// The capacity of a site and its price. Sites without a capacity have none.
+/// The room of a site, by its place.
 #[derive(Clone, Copy)]
 pub(crate) struct Room {
+    pub(crate) is_opened: bool,
     has_cap: bool,
-    cap: f64,
-    fixed: f64,
-    is_opened: bool,
-    /// The price of a unit of demand that is evaluated, and that of the best evaluation.
+    /// The capacity; where there is none, what all customers demand.
+    pub(crate) cap: f64,
+    pub(crate) fixed: f64,
+    /// What is loaded, and how much of the room is left empty.
+    pub(crate) load: f64,
+    pub(crate) spare: f64,
+    /// The price of a unit of the capacity.
     pub(crate) price: f64,
-    pub(crate) best: f64,
-    // What is loaded at the prices that are evaluated.
-    load: f64,
-    // By how much the bound rises with the price: what is loaded above the capacity.
-    slope: f64,
-    smooth: f64,
+    /// What it costs to bring a unit of demand here from an overfull room, and by which move it comes.
+    pub(crate) way: f64,
+    pub(crate) last: Move,
+    /// Whether some lane can be lost only where other customers are forced to the site.
+    pub(crate) is_pressed: bool,
 }
+
+/// How a unit of demand comes to a room.
+#[derive(Clone, Copy)]
+pub(crate) struct Move {
+    /// The place of the site from which it comes; behind all sites where the way begins.
+    pub(crate) from: usize,
+    /// The places of the lanes that lose and gain it; none where empty room is moved instead.
+    pub(crate) lanes: Option<(usize, usize)>,
+}
+
+/// The way begins here.
+pub(crate) const NO_MOVE: Move = Move {
+    from: usize::MAX,
+    lanes: None,
+};
 
 /// No site in particular.
 pub(crate) const NO_ROOM: Room = Room {
+    is_opened: false,
     has_cap: false,
     cap: 0.0,
     fixed: 0.0,
-    is_opened: false,
-    price: 0.0,
-    best: 0.0,
     load: 0.0,
-    slope: 0.0,
-    smooth: 0.0,
+    spare: 0.0,
+    price: 0.0,
+    way: f64::MAX,
+    last: NO_MOVE,
+    is_pressed: false,
 };
 
-/// The lane that a customer takes at some prices: its rank among those that the box allows, and its level.
-#[derive(Clone, Copy)]
-pub(crate) struct Choice {
-    pub(crate) rank: usize,
-    pub(crate) level: f64,
+impl Room {
+    /// By how much more is loaded and left empty than there is room for; below 0 where it is less.
+    pub(crate) fn excess(self) -> f64 {
+        self.load + self.spare - self.cap
+    }
+
+    /// Whether more is loaded than the capacity.
+    pub(crate) fn is_overloaded(self) -> bool {
+        self.has_cap && self.load > self.cap
+    }
+
+    fn fits_beside(self, weight: f64) -> bool {
+        !self.has_cap || self.load + weight <= self.cap
+    }
 }
 
-/// Fills in what the sites cost and hold.
-pub(crate) fn fill_rooms(inst: &Instance, rooms: &mut [Room])
+/// Fills in what the sites cost and hold. All customers together demand `demand`.
+pub(crate) fn fill_rooms(inst: &Instance, demand: f64, rooms: &mut [Room])
     requires { length rooms.old ≡ length inst.now.sites }
     ensures { length rooms.new ≡ length rooms.old }
 {
     for i in 0..rooms.len() {
         rooms[i].fixed = nearest_u64_to_f64(inst.fixed(i));
+        rooms[i].cap = demand;
         if let Some(cap) = inst.cap(i) {
             rooms[i].has_cap = true;
             rooms[i].cap = nearest_u64_to_f64(cap);
@@ -73,42 +99,6 @@ pub(crate) fn open_rooms(boxed: &PreparedBox<'_>, rooms: &mut [Room])
     }
 }
 
-/// Takes these prices, of which `scale` are a millionth, where there is a capacity.
-pub(crate) fn take_prices(prices: &[u64], scale: u32, rooms: &mut [Room])
-    ensures { length rooms.new ≡ length rooms.old }
-{
-    let parts = nearest_u64_to_f64(u64::from(scale.max(1)));
-    for i in 0..rooms.len() {
-        if i < prices.len() && rooms[i].has_cap {
-            rooms[i].price = nearest_u64_to_f64(prices[i]) / parts;
-        }
-    }
-}
-
-/// Lets each customer take a lane of the least level at the prices. The answer is the sum of the levels.
-pub(crate) fn load_all(
-    lanes: &BoxLanes,
-    demands: &[Demand],
-    choices: &mut [Choice],
-    rooms: &mut [Room],
-) -> f64
-    requires { length demands.now ≡ length choices.old }
-    ensures choices { length choices.new ≡ length choices.old }
-    ensures rooms { length rooms.new ≡ length rooms.old }
-{
-    empty_rooms(rooms);
-    let mut sum = 0.0;
-    for j in 0..choices.len() {
-        let own = lanes.of_customer(j);
-        let weight = demands[j].weight;
-        let choice = cheapest(own, weight, rooms);
-        load(own, choice.rank, weight, rooms);
-        sum += choice.level;
-        choices[j] = choice;
-    }
-    sum
-}
-
 /// Nothing is loaded any more.
 pub(crate) fn empty_rooms(rooms: &mut [Room])
     ensures { length rooms.new ≡ length rooms.old }
@@ -118,44 +108,12 @@ pub(crate) fn empty_rooms(rooms: &mut [Room])
     }
 }
 
-// The lane of the least level of a customer of this demand.
-fn cheapest(lanes: &[PlacedLane], weight: f64, rooms: &[Room]) -> Choice {
-    let mut least = Choice {
-        rank: 0,
-        level: f64::MAX,
-    };
-    for rank in 0..lanes.len() {
-        let cost = nearest_u64_to_f64(lanes[rank].cost);
-        if cost >= least.level {
-            return least;
-        }
-        let level = cost + weight * price_at(rooms, lanes[rank].site as usize);
-        if level < least.level {
-            least = Choice { rank, level };
-        }
-    }
-    if lanes.is_empty() {
-        least.level = 0.0;
-    }
-    least
-}
-
-fn price_at(rooms: &[Room], site: usize) -> f64 {
-    match rooms.get(site) {
-        None => 0.0,
-        Some(room) => room.price,
-    }
-}
-
-/// Loads so much into the room of the lane of this rank.
-pub(crate) fn load(lanes: &[PlacedLane], rank: usize, weight: f64, rooms: &mut [Room])
+/// Loads so much more into the room of a site.
+pub(crate) fn load(rooms: &mut [Room], site: usize, weight: f64)
     ensures { length rooms.new ≡ length rooms.old }
 {
-    if rank < lanes.len() {
-        let site = lanes[rank].site as usize;
-        if site < rooms.len() {
-            rooms[site].load += weight;
-        }
+    if site < rooms.len() {
+        rooms[site].load += weight;
     }
 }
 
@@ -163,125 +121,66 @@ pub(crate) fn load(lanes: &[PlacedLane], rank: usize, weight: f64, rooms: &mut [
 pub(crate) fn fits_beside(rooms: &[Room], site: usize, weight: f64) -> bool {
     match rooms.get(site) {
         None => false,
-        Some(room) => !room.has_cap || room.load + weight <= room.cap,
+        Some(room) => room.fits_beside(weight),
     }
 }
 
 /// Whether more is loaded into some room than it holds.
 pub(crate) fn is_overloaded(rooms: &[Room]) -> bool {
     for room in rooms {
-        if room.has_cap && room.load > room.cap {
+        if room.is_overloaded() {
             return true;
         }
     }
     false
 }
 
-/// The level of the lane at the prices, for a customer of this demand.
-pub(crate) fn level_at(lane: PlacedLane, weight: f64, rooms: &[Room]) -> f64 {
-    nearest_u64_to_f64(lane.cost) + weight * price_at(rooms, lane.site as usize)
-}
-
-/// Fills in the slopes. The answer is what the opened sites cost, less what their capacities do at the prices.
-pub(crate) fn fill_slopes(rooms: &mut [Room]) -> f64
+/// No site is pressed any more, or those that are overloaded are.
+pub(crate) fn press_overloaded(rooms: &mut [Room], may_press: bool)
     ensures { length rooms.new ≡ length rooms.old }
 {
-    let mut sum = 0.0;
     for i in 0..rooms.len() {
-        let room = rooms[i];
+        rooms[i].is_pressed = may_press && rooms[i].is_overloaded();
+    }
+}
+
+/// Presses the site.
+pub(crate) fn press(rooms: &mut [Room], site: usize)
+    ensures { length rooms.new ≡ length rooms.old }
+{
+    if site < rooms.len() {
+        rooms[site].is_pressed = true;
+    }
+}
+
+/// Whether the site is pressed.
+pub(crate) fn is_pressed_at(rooms: &[Room], site: usize) -> bool {
+    match rooms.get(site) {
+        None => false,
+        Some(room) => room.is_pressed,
+    }
+}
+
+/// The price of a unit of demand at the site.
+pub(crate) fn price_at(rooms: &[Room], site: usize) -> f64 {
+    match rooms.get(site) {
+        None => 0.0,
+        Some(room) => room.price,
+    }
+}
+
+/// The level of the lane at the prices, for a customer of this demand.
+pub(crate) fn level_at(lane: RoomLane, weight: f64, rooms: &[Room]) -> f64 {
+    lane.cost + weight * price_at(rooms, lane.site())
+}
+
+/// What the opened sites cost, less what their capacities do at the prices.
+pub(crate) fn opened_cost(rooms: &[Room]) -> f64 {
+    let mut sum = 0.0;
+    for room in rooms {
         if room.is_opened {
             sum += room.fixed - room.price * room.cap;
         }
-        if room.has_cap {
-            rooms[i].slope = room.load - room.cap;
-        }
     }
     sum
-}
-
-/// Takes the prices as the best.
-pub(crate) fn keep_prices(rooms: &mut [Room])
-    ensures { length rooms.new ≡ length rooms.old }
-{
-    for i in 0..rooms.len() {
-        rooms[i].best = rooms[i].price;
-    }
-}
-
-/// Goes back to the best prices.
-pub(crate) fn recall_prices(rooms: &mut [Room])
-    ensures { length rooms.new ≡ length rooms.old }
-{
-    for i in 0..rooms.len() {
-        rooms[i].price = rooms[i].best;
-    }
-}
-
-/// Takes the slopes as the smoothed ones.
-pub(crate) fn restart_smooth(rooms: &mut [Room])
-    ensures { length rooms.new ≡ length rooms.old }
-{
-    for i in 0..rooms.len() {
-        rooms[i].smooth = rooms[i].slope;
-    }
-}
-
-/// Mixes so much of the slopes into the smoothed ones.
-pub(crate) fn smooth_slopes(rooms: &mut [Room], weight: f64)
-    ensures { length rooms.new ≡ length rooms.old }
-{
-    for i in 0..rooms.len() {
-        let room = rooms[i];
-        rooms[i].smooth = room.smooth + weight * (room.slope - room.smooth);
-    }
-}
-
-/// Sums of products of slopes and smoothed slopes, of the sites whose price may move.
-pub(crate) fn slope_products(rooms: &[Room]) -> Products {
-    let mut sums = Products {
-        smooth: 0.0,
-        mixed: 0.0,
-        slope: 0.0,
-    };
-    for room in rooms {
-        if room.best > 0.0 || room.smooth > 0.0 {
-            sums.smooth += room.smooth * room.smooth;
-            sums.mixed += room.smooth * room.slope;
-            sums.slope += room.slope * room.slope;
-        }
-    }
-    sums
-}
-
-/// Steps from the best prices along the smoothed slopes.
-pub(crate) fn step_smoothly(rooms: &mut [Room], stride: f64)
-    ensures { length rooms.new ≡ length rooms.old }
-{
-    for i in 0..rooms.len() {
-        let room = rooms[i];
-        if room.is_opened {
-            rooms[i].price = (room.best + stride * room.smooth).max(0.0);
-        }
-    }
-}
-
-/// Mixes so much of the choices into the shares of the lanes.
-pub(crate) fn smooth_lanes(lanes: &BoxLanes, choices: &[Choice], weight: f64, shares: &mut [f64])
-    ensures { length shares.new ≡ length shares.old }
-{
-    for j in 0..choices.len() {
-        let start = lanes.start(j);
-        let end = start.saturating_add(lanes.of_customer(j).len());
-        let taken = start.saturating_add(choices[j].rank);
-        smooth_between(start, end, taken, weight, shares);
-    }
-}
-
-fn smooth_between(start: usize, end: usize, taken: usize, weight: f64, shares: &mut [f64])
-    ensures { length shares.new ≡ length shares.old }
-{
-    for k in start..end.min(shares.len()) {
-        let now = if k == taken { 1.0 } else { 0.0 };
-        shares[k] += weight * (now - shares[k]);
-    }
 }

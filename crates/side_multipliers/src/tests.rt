@@ -1,48 +1,22 @@
-ghost use Rattle.std.specs.Prelude.{◌≡◌, Some, IsTrue};
+ghost use Rattle.std.specs.Prelude.{IsTrue};
 ghost use Rattle.location_terms.specs.Fit.{AreTame};
 
-use crate::{AT_ROOT, CapSteps, IN_ROOMS, LaneOrder, LaneShare, RoomSteps, improve};
+use crate::{AT_ROOT, CapSteps, LaneOrder, LanePlace, Transport, improve};
 use dual_value::{Decision, Duals, Path, PreparedBox, bound, tame};
-use instance_store::{CustId, CustRow, Instance, LaneRow, NoMemory, SiteId, SiteRow};
+use example_instances::{customer, site, warehouses};
+use instance_store::{Instance, LaneRow, NoMemory, SiteId};
 use std::alloc::Global;
 use std::test::Fail;
 
-fn site(id: u32, fixed: u64, lanes: LaneRow) -> SiteRow
-    ensures { result ≡ record { id = id; fixed = fixed; cap = Some 10000000; lanes = lanes } }
-{
-    SiteRow {
-        id: SiteId::new(id),
-        fixed,
-        cap: Some(10_000_000),
-        lanes,
-    }
-}
-
-fn customer(id: u32) -> CustRow
-    ensures { result ≡ record { id = id; demand = 6000000 } }
-{
-    CustRow {
-        id: CustId::new(id),
-        demand: 6_000_000,
-    }
-}
-
-// A dear site and a cheap one, either of which has room for one of the two customers and two thirds of
-// the other.
-fn pair(alloc: Global) -> Result<Instance, NoMemory> {
-    let dear = LaneRow::from_slice(alloc, &[Some(6_739_725_000), Some(3_000_000)])?;
-    let cheap = LaneRow::from_slice(alloc, &[Some(1_250_000), Some(4_000_000)])?;
-    let sites = vec![in alloc; site(1, 7_500_000_000, dear), site(2, 500_000, cheap)]?;
-    let custs = vec![in alloc; customer(1), customer(2)]?;
-    Instance::from_parts(alloc, 0, 2, 3, 3, custs, sites)
-}
-
-// The same where both customers are nearer to the cheap site.
+// The warehouses where both customers are nearer to the cheap one.
 fn near_pair(alloc: Global) -> Result<Instance, NoMemory> {
     let dear = LaneRow::from_slice(alloc, &[Some(6_739_725_000), Some(4_000_000)])?;
     let cheap = LaneRow::from_slice(alloc, &[Some(1_250_000), Some(3_000_000)])?;
-    let sites = vec![in alloc; site(1, 7_500_000_000, dear), site(2, 500_000, cheap)]?;
-    let custs = vec![in alloc; customer(1), customer(2)]?;
+    let sites = vec![in alloc;
+        site(1, 7_500_000_000, Some(10_000_000), dear),
+        site(2, 500_000, Some(10_000_000), cheap),
+    ]?;
+    let custs = vec![in alloc; customer(1, 6_000_000), customer(2, 6_000_000)]?;
     Instance::from_parts(alloc, 0, 2, 3, 3, custs, sites)
 }
 
@@ -103,32 +77,52 @@ fn fills_rooms(alloc: Global, inst: &Instance) -> Result<bool, NoMemory> {
     path.push(Decision::Opened(SiteId::new(1)))?;
     path.push(Decision::Opened(SiteId::new(2)))?;
     let boxed = PreparedBox::of(alloc, inst, &path)?;
-    let mut steps = RoomSteps::of(alloc, inst, &order)?;
-    steps.enter(&boxed, &order);
-    steps.restart(IN_ROOMS);
-    steps.start_from(&[0, 0], 1);
-    steps.volume(7505750000.0, 20);
-    steps.round(1_000);
-    steps.weigh_lanes();
+    let mut rooms = Transport::of(alloc, inst, &order)?;
+    rooms.enter(&boxed, &order);
+    rooms.solve(7505750000.0);
+    rooms.round(1_000);
+    let split = rooms.split(7505750000.0);
     Ok(
-        steps.bound() > 7505050000.0
-            && steps.bound() < 7505090000.0
-            && steps.prices().first() == Some(&0)
-            && splits_second(steps.lane_shares()),
+        rooms.bound() > 7505050000.0
+            && rooms.bound() < 7505090000.0
+            && rooms.prices().first() == Some(&0)
+            && splits_second(split),
     )
 }
 
-// Whether the second customer has two lanes and is served by both.
-fn splits_second(shares: &[LaneShare]) -> bool {
-    shares.len() == 2 && shares[1].lanes == 2 && shares[1].share < 0.95
+// Whether nothing is left in the box where the dear site is closed: the cheap one is too small for both.
+fn shows_empty(alloc: Global, inst: &Instance) -> Result<bool, NoMemory> {
+    let order = LaneOrder::of(alloc, inst)?;
+    let mut path = Path::root(alloc);
+    path.push(Decision::Closed(SiteId::new(1)))?;
+    path.push(Decision::Opened(SiteId::new(2)))?;
+    let boxed = PreparedBox::of(alloc, inst, &path)?;
+    let mut rooms = Transport::of(alloc, inst, &order)?;
+    rooms.enter(&boxed, &order);
+    rooms.solve(7505750000.0);
+    rooms.name_suppliers();
+    Ok(
+        rooms.shows(1.0e15)
+            && rooms.split(7505750000.0).is_none()
+            && rooms.suppliers() == [1, 1].as_slice(),
+    )
+}
+
+// Whether the split is on a lane of the second customer, which both sites serve.
+fn splits_second(split: Option<LanePlace>) -> bool {
+    match split {
+        None => false,
+        Some(lane) => lane.cust == 1,
+    }
 }
 
 #[test]
 fn steps_price_capacities(rt: HostRuntime) -> Result<(), Fail> {
-    let inst = pair(rt.alloc())?;
+    let inst = warehouses(rt.alloc())?;
     assert!(rt; rises(rt.alloc(), &inst)?);
     assert!(rt; improves(rt.alloc(), &inst)?);
     let near = near_pair(rt.alloc())?;
     assert!(rt; fills_rooms(rt.alloc(), &near)?);
+    assert!(rt; shows_empty(rt.alloc(), &near)?);
     Ok(())
 }

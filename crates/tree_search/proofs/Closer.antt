@@ -12,7 +12,8 @@ use Rattle.dual_value.specs.Scales.{IsAtLeast}
 use Rattle.plan_search.specs.InBox.{IsNoWorse}
 use Rattle.tree_search.specs.Answer.{cost_in}
 use Rattle.tree_search.specs.Working.{ClosesWith, IsSoughtAt}
-use Rattle.tree_search.proofs.Comparing.{le_times, exchanged}
+use Rattle.dual_value.proofs.Sizes.{le_times}
+use Rattle.tree_search.proofs.Comparing.{exchanged}
 
 -- Products with a scale.
 

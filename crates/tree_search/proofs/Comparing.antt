@@ -3,10 +3,7 @@ use Rattle.std.proofs.Common.{◌≡◌, ℕ, zero, suc, ◌*◌, ◌≤◌, sym
 use Rattle.std.specs.Prelude.{◌*ℤ◌}
 use Rattle.std.proofs.lemmas.Int.{by_lt_z, ints}
 use Rattle.dual_value.specs.Scales.{IsAtLeast, IsGreater}
-
-pub le_times : (n : ℕ) (x y : ℤ) → x ≤ℤ y → (pos n *ℤ x) ≤ℤ (pos n *ℤ y)
-le_times zero x y h = omega (arith, ints)
-le_times (suc n) x y h = omega (arith, ints, h, le_times n x y h)
+use Rattle.dual_value.proofs.Sizes.{le_times}
 
 -- a factor above 0 can be taken off
 pub times_le : (n : ℕ) (x y : ℤ) → 1 ≤ n → (pos n *ℤ x) ≤ℤ (pos n *ℤ y) → x ≤ℤ y

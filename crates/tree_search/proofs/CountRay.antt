@@ -15,7 +15,7 @@ use Rattle.dual_ascent.specs.Levels.{site_places}
 use Rattle.plan_search.specs.Packed.{opened_places}
 use Rattle.tree_search.specs.Made.{IsMadeLeaf}
 use Rattle.tree_search.specs.Rays.{possible_count, count_ray}
-use Rattle.tree_search.proofs.UnservedRay.{nothing_paid, no_cap_price}
+use Rattle.dual_ascent.proofs.Plain.{nothing_paid, no_cap_price}
 use Rattle.tree_search.proofs.PlaceSums.{kept_at_most, kept_is_total}
 
 length-ones : (xs : List ℕ) → sum_by (λ i. 1) xs ≡ length xs

@@ -17,7 +17,7 @@ use Rattle.location_terms.specs.Bound.{Duals}
 use Rattle.location_terms.specs.Tree.{Node, Leaf, OnSite, OnLane, size_of}
 use Rattle.dual_ascent.specs.Levels.{site_places, customer_places, servers}
 use Rattle.plan_search.proofs.Among.{place-contained}
-use Rattle.plan_search.proofs.Feasible.{lane_parts}
+use Rattle.dual_ascent.proofs.Walked.{lane_parts}
 use Rattle.plan_search.proofs.Sums.{sum_by-below}
 use Rattle.tree_search.specs.Made.{has_cap, IsFreeSite, IsOpenLane, IsMade}
 use Rattle.tree_search.specs.Answer.{most_decisions}

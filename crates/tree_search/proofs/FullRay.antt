@@ -15,7 +15,8 @@ use Rattle.location_terms.proofs.Totals.{total_zero, total_one, total_same}
 use Rattle.dual_ascent.specs.Levels.{customer_places}
 use Rattle.tree_search.specs.Made.{IsMadeLeaf}
 use Rattle.tree_search.specs.Rays.{is_forced, forced_demand, forced_ray}
-use Rattle.tree_search.proofs.UnservedRay.{nothing_paid, no_cap_price, no_share}
+use Rattle.dual_ascent.proofs.Plain.{nothing_paid, no_cap_price}
+use Rattle.tree_search.proofs.UnservedRay.{no_share}
 use Rattle.tree_search.proofs.PlaceSums.{kept_is_total}
 use Rattle.tree_search.proofs.ForcedDemands.{forced_alone, small_demand}
 

@@ -1,16 +1,13 @@
 -- A ray that is judged by its bound.
-use Rattle.std.proofs.Common.{◌≡◌, ℕ, ◌<◌, ◌≤◌, sym, subst, inl, inr, arith, List, length, None, ℤ, pos, ◌≤ℤ◌}
+use Rattle.std.proofs.Common.{◌≡◌, ℕ, ◌<◌, ◌≤◌, sym, subst, arith, List, length, None, ℤ, pos, ◌≤ℤ◌}
 use Rattle.std.specs.Prelude.{All, unsigned_abs, slice_index}
 use Rattle.location_terms.specs.Instance.{Instance, site_at}
 use Rattle.location_terms.specs.Box.{Path}
 use Rattle.location_terms.specs.Bound.{Duals, bound_of}
 use Rattle.location_terms.specs.Fit.{DualsFit, BoundCloses}
 use Rattle.location_terms.specs.declared.limits.TheConstants.{MAX_VALUE, MAX_MULTIPLIER}
+use Rattle.branch_tree.proofs.LowEnd.{ray_above}
 use Rattle.tree_search.specs.Made.{IsMadeLeaf}
-
-ray_closes : (bound : ℤ) → BoundCloses bound 0 None → pos 1 ≤ℤ bound
-ray_closes bound (inl ray) = ray.1
-ray_closes bound (inr scaled) = absurd scaled.1
 
 module _ (I J : Instance) (same : J ≡ I) (path : Path) (v : List ℤ) (u : List ℕ) where
   abbrev ray : Duals
@@ -26,4 +23,4 @@ module _ (I J : Instance) (same : J ≡ I) (path : Path) (v : List ℤ) (u : Lis
         of_instance = record { customers = long; sites = count; unpriced = unpriced };
       } in
       subst (IsMadeLeaf I old_path old path) (sym made)
-      (record { fit = subst (λ K. DualsFit K ray) same fit; ray = λ _. subst (λ x. pos 1 ≤ℤ x) is (ray_closes bound closes); scaled = λ some. absurd (omega (arith, some)) })
+      (record { fit = subst (λ K. DualsFit K ray) same fit; ray = λ _. subst (λ x. pos 1 ≤ℤ x) is (ray_above bound closes); scaled = λ some. absurd (omega (arith, some)) })

@@ -7,7 +7,7 @@ use Rattle.location_terms.specs.Box.{Path}
 use Rattle.location_terms.specs.Bound.{Duals}
 use Rattle.location_terms.specs.Tree.{Node, Leaf, OnSite, OnLane, leaves_below, size_of}
 use Rattle.branch_tree.specs.Leaf.{leaf_total, replaced}
-use Rattle.branch_tree.proofs.Built.{leaf_is}
+use Rattle.branch_tree.proofs.Built.{leaf_is, as_many}
 use Rattle.branch_tree.proofs.Flat.{leaves_and_splits}
 use Rattle.branch_tree.proofs.Spliced.{get_left, get_right}
 
@@ -15,9 +15,6 @@ pub all_at : {X : Type 0} (P : X → Type 0) (xs : List X) (k : ℕ) (x : X) →
 all_at P [] k x h e = cc
 all_at P (y ∷ ys) zero x h e = let same : y ≡ x = cc in subst P same (h 0 y (omega arith))
 all_at P (y ∷ ys) (suc k) x h e = all_at P ys k x (λ i d b. h (suc i) d (omega (arith, b))) e
-
-pub as_many : (t : Node) (path : Path) → length (leaves_below path t) ≡ leaf_total t
-as_many t path = omega (arith, leaves_and_splits t path, leaves_and_splits t [])
 
 pub some_leaf : (t : Node) → 1 ≤ leaf_total t
 some_leaf t = omega (arith, leaves_and_splits t [])

@@ -13,7 +13,7 @@ use Rattle.dual_adjust.proofs.IdsRise.{places_rise}
 use Rattle.dual_adjust.proofs.MoreThanOne.{one_passes}
 use Rattle.plan_search.specs.InBox.{HasNoCaps}
 use Rattle.plan_search.proofs.Among.{contained-place}
-use Rattle.plan_search.proofs.Feasible.{lane_parts}
+use Rattle.dual_ascent.proofs.Walked.{lane_parts}
 use Rattle.tree_search.specs.Made.{has_cap, IsOpenLane}
 use Rattle.tree_search.specs.Working.{HasNoFreeSite, IsSettled}
 use Rattle.tree_search.proofs.ZeroBound.{none_capped, uncapped}

@@ -7,11 +7,9 @@ use Rattle.location_terms.specs.Box.{Path}
 use Rattle.location_terms.specs.Bound.{Duals}
 use Rattle.location_terms.specs.Tree.{Node, Leaf, OnSite, OnLane, leaves_below}
 use Rattle.branch_tree.specs.Leaf.{leaf_total, replaced}
+use Rattle.branch_tree.proofs.Built.{one_leaf_is}
 use Rattle.tree_search.specs.Regrown.{IsRenewedBut}
 use Rattle.tree_search.proofs.LeafPlaces.{LeafAt, some_leaf, both_children, get_first, get_second}
-
-leaf_pair : (l m : Path × Duals) → Some l ≡ Some m → l ≡ m
-leaf_pair l m h = cc
 
 -- a tree whose leaf is replaced by itself
 module _ (p : Path) (d : Duals) where
@@ -29,7 +27,7 @@ module _ (p : Path) (d : Duals) where
       ]
 
   pub replaced_same : (t : Node) → Stays t
-  replaced_same (Leaf e) path zero here = ap (λ (l : Path × Duals). Leaf l.1) (sym (leaf_pair (path, e) (p, d) here))
+  replaced_same (Leaf e) path zero here = ap (λ (l : Path × Duals). Leaf l.1) (sym (one_leaf_is (path, e) (p, d) here))
   replaced_same (Leaf e) path (suc k) here = cc
   replaced_same (OnSite s a b) path k here = stays_below (OnSite s) a b (path ++ Closed s ∷ []) (path ++ Opened s ∷ []) k (replaced_same a) (replaced_same b) here
   replaced_same (OnLane s c a b) path k here = stays_below (OnLane s c) a b (path ++ No s c ∷ []) (path ++ Yes s c ∷ []) k (replaced_same a) (replaced_same b) here
@@ -137,7 +135,7 @@ module _ (R : Path → Duals → Node → Type 0) where
     pub renewed_more : (old new : Node) → Steps old new
     renewed_more (Leaf e) new path left zero is here h =
         let same : new ≡ Leaf e = h.0 (omega (arith, is)) in
-        let now : R path e part = subst (λ (l : Path × Duals). R l.0 l.1 part) (sym (leaf_pair (path, e) (p, d) here)) has in
+        let now : R path e part = subst (λ (l : Path × Duals). R l.0 l.1 part) (sym (one_leaf_is (path, e) (p, d) here)) has in
         (λ some. absurd (omega (arith, some)), λ none. subst (λ t. R path e (replaced t 0 part)) (sym same) now)
     renewed_more (Leaf e) new path left (suc k) is here h = cc
     renewed_more (OnSite s a b) (OnSite s' a' b') path left k is here h =

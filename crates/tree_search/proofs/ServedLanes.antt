@@ -1,17 +1,19 @@
 -- From where a customer can be served, found out by a walk over its lanes.
 use Rattle.std.proofs.Common.{◌≡◌, ◌≢◌, ℕ, zero, suc, ◌+◌, ◌<◌, ◌≤◌, inl, inr, refl, sym, ap, subst, ◌∙◌, arith, Bool, true, false, List, length, get_or, Option, Some, None}
-use Rattle.std.specs.Prelude.{◌&&◌, not, IsSome, is_some}
-use Rattle.std.specs.List.{list_any, range_with_len}
-use Rattle.std.proofs.lemmas.Bool.{false≢true, and_parts, cases_lt}
+use Rattle.std.specs.Prelude.{IsSome}
+use Rattle.std.specs.List.{range_with_len}
+use Rattle.std.proofs.lemmas.Bool.{false≢true, cases_lt}
 use Rattle.std.proofs.lemmas.List.{get_or_default}
 use Rattle.std.proofs.lemmas.List.Elements.{Contains-get_or}
 use Rattle.location_terms.specs.Instance.{Instance, site_at, customer_at, lane}
-use Rattle.location_terms.specs.Box.{Path, is_allowed, is_torn, is_closed, bars_lane, holds_demand}
+use Rattle.location_terms.specs.Box.{Path, is_allowed}
 use Rattle.lane_order.specs.declared.order.PlacedLane.{PlacedLane}
 use Rattle.lane_order.specs.Order.{Order}
 use Rattle.lane_order.proofs.Walks.{site_within, placed_is_lane, lane_is_placed}
 use Rattle.dual_ascent.specs.Levels.{servers}
-use Rattle.dual_adjust.proofs.LanesPaid.{IsWalk, none}
+use Rattle.dual_ascent.proofs.Walked.{allowed_has_lane}
+use Rattle.dual_adjust.specs.Walk.{IsLaneWalk}
+use Rattle.dual_adjust.proofs.LanesPaid.{none}
 use Rattle.dual_adjust.proofs.Violating.{is_server, server_within}
 use Rattle.dual_adjust.proofs.IdsRise.{places_rise}
 use Rattle.dual_adjust.proofs.MoreThanOne.{two_pass, one_passes}
@@ -20,13 +22,6 @@ use Rattle.plan_search.proofs.Among.{place-contained, contained-place}
 use Rattle.tree_search.specs.Service.{IsServiceOf, only}
 use Rattle.tree_search.specs.declared.serving.Service.TheVariants.{Several}
 
-second_of : (a b c d e : Bool) → (a && b && c && d && e) ≡ true → b ≡ true
-second_of a b c d e h = (and_parts a b (and_parts (a && b) c (and_parts (a && b && c) d (and_parts (a && b && c && d) e h).0).0).0).1
-
-some_value : (o : Option ℕ) → is_some o ≡ true → (x : ℕ) × (o ≡ Some x)
-some_value None e = absurd (false≢true e)
-some_value (Some x) e = (x, λ _. Some x)
-
 -- of the first k lanes none is allowed, or just one, which is from this site
 abbrev pub IsFound : Instance → Path → ℕ → List PlacedLane → ℕ → Option ℕ → Type 0
 IsFound I path j lanes k None = (r : ℕ) → r < k → is_allowed I path (site_at I (get_or lanes r none).site) (customer_at I j) ≡ false
@@ -34,7 +29,7 @@ IsFound I path j lanes k (Some i) =
     (one : ℕ) × (one < k) × ((get_or lanes one none).site ≡ i) × (is_allowed I path (site_at I i) (customer_at I j) ≡ true)
     × ((r : ℕ) → r < k → is_allowed I path (site_at I (get_or lanes r none).site) (customer_at I j) ≡ true → r ≡ one)
 
-module _ (I : Instance) (path : Path) (order : Order) (j : ℕ) (lanes : List PlacedLane) (walk : IsWalk I order j lanes) where
+module _ (I : Instance) (path : Path) (order : Order) (j : ℕ) (lanes : List PlacedLane) (walk : IsLaneWalk I order j lanes) where
   -- the site of the lane of a rank
   abbrev pub site_of : ℕ → ℕ
   site_of r = (get_or lanes r none).site
@@ -50,8 +45,7 @@ module _ (I : Instance) (path : Path) (order : Order) (j : ℕ) (lanes : List Pl
 
   allowed_rank : (i : ℕ) → i < length I.sites → allows i ≡ true → (r : ℕ) × (r < length lanes) × (site_of r ≡ i)
   allowed_rank i b allowed =
-      let at = lane I (site_at I i).id (customer_at I j).id in
-      let has = some_value at (second_of (not (is_torn I path)) (is_some at) (not (is_closed path (site_at I i))) (not (list_any (bars_lane (site_at I i).id (customer_at I j).id) path)) (holds_demand (site_at I i).cap (customer_at I j).demand) allowed) in
+      let has = allowed_has_lane I path i j allowed in
       let c = lane_is_placed I order walk.order_of j walk.within lanes walk.exact walk.known walk.valid.sites_named.rising i has.0 b has.1 in
       let wanted : PlacedLane = record { cost = has.0; site = i } in
       (c.0, c.1, ap (λ (l : PlacedLane). l.site) (get_or_default lanes c.0 none wanted c.1 ∙ c.2))

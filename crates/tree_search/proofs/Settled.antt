@@ -29,7 +29,7 @@ use Rattle.plan_search.proofs.Feasible.{packs, are_taken}
 use Rattle.tree_search.specs.Made.{has_cap, plain_scale, IsPlainAscent}
 use Rattle.tree_search.specs.Rays.{IsRayless}
 use Rattle.tree_search.specs.Working.{IsSettled}
-use Rattle.tree_search.proofs.UnservedRay.{nothing_paid, no_cap_price}
+use Rattle.dual_ascent.proofs.Plain.{nothing_paid, no_cap_price}
 use Rattle.tree_search.proofs.ZeroBound.{plain_scale_fits, uncapped}
 use Rattle.tree_search.proofs.PlaceSums.{sum_at_most, kept_at_most}
 use Rattle.tree_search.proofs.Reseated.{by_seat, least_has, least_there, IsWithin, comes_from, comes_to_seats, comes_within}

@@ -16,23 +16,19 @@ use Rattle.dual_adjust.proofs.MoreThanOne.{two_pass}
 use Rattle.dual_adjust.proofs.Violating.{server_within}
 use Rattle.plan_search.specs.Packed.{is_among, opened_places, remaining, chosen, by_falling_demand, taken_at, takeable, cheapest, with_lane, taking, all_taken, plan_of, packed}
 use Rattle.plan_search.proofs.Among.{Contains-filter, place-contained}
+use Rattle.plan_search.proofs.Cheapest.{called_or_closed}
 use Rattle.plan_search.proofs.Flagging.{passing_same}
 use Rattle.plan_search.proofs.Sums.{sum_by-filter, sum_by-map, sum_by-below}
 use Rattle.plan_search.proofs.Queue.{turns_move}
 use Rattle.plan_search.proofs.Picked.{cheapest_some}
 use Rattle.plan_search.proofs.OpenSites.{chosen_state, called_chosen}
 use Rattle.plan_search.proofs.Taken.{AreTaken, none_taken, one_takes, is_takeable, holds_without}
-use Rattle.plan_search.proofs.Feasible.{lane_parts}
+use Rattle.dual_ascent.proofs.Walked.{lane_parts}
 use Rattle.tree_search.specs.Made.{has_cap}
 use Rattle.tree_search.specs.Rays.{is_forced, forced_demand, possible_count, IsRayless}
 use Rattle.tree_search.specs.Working.{IsSettled}
 use Rattle.tree_search.proofs.OpenPlans.{plan_by}
 use Rattle.tree_search.proofs.ZeroBound.{uncapped}
-
-called_if : (called closed : Bool) → (not called && not closed) ≡ false → closed ≡ false → called ≡ true
-called_if true closed e f = refl
-called_if false true e f = cc
-called_if false false e f = cc
 
 opened_if : (called closed : Bool) → called ≡ true → closed ≡ false → (called && not closed) ≡ true
 opened_if true false e f = refl
@@ -67,7 +63,7 @@ module _ (I : Instance) (path : Path) (rayless : IsRayless I path) (settled : Is
   Allowed i j = is_allowed I path (site_at I i) (customer_at I j) ≡ true
 
   called : (i j : ℕ) → i < length I.sites → Allowed i j → is_called_for path (site_at I i) ≡ true
-  called i j b allowed = called_if (is_called_for path (site_at I i)) (is_closed path (site_at I i)) (settled.sites i b) (lane_parts I path i j allowed).2
+  called i j b allowed = called_or_closed (is_called_for path (site_at I i)) (is_closed path (site_at I i)) (settled.sites i b) (lane_parts I path i j allowed).2
 
   -- an allowed lane is from an opened site
   pub lane_opened : (i j : ℕ) → i < length I.sites → Allowed i j → is_opened path (site_at I i) ≡ true

@@ -14,7 +14,7 @@ use Rattle.plan_search.specs.InBox.{HasNoCaps}
 use Rattle.plan_search.specs.Packed.{chosen, packed}
 use Rattle.plan_search.proofs.Among.{contains-among, Contains-map, Contains-filter, place-contained}
 use Rattle.plan_search.proofs.OpenSites.{called_chosen}
-use Rattle.plan_search.proofs.Feasible.{lane_parts}
+use Rattle.dual_ascent.proofs.Walked.{lane_parts}
 use Rattle.tree_search.specs.Made.{AreServed}
 use Rattle.tree_search.specs.Answer.{HasFreeCount}
 use Rattle.tree_search.proofs.OpenPlans.{hinted_chosen, served_packs}

@@ -1,14 +1,14 @@
 -- The ray of a customer without an allowed lane: its bound is 1 at scale 0.
-use Rattle.std.proofs.Common.{◌≡◌, ◌≢◌, ℕ, ◌*◌, ◌<◌, ◌≤◌, refl, inl, inr, sym, ap, subst, ◌∙◌, arith, Bool, true, false, length, Option, Some, None, ℤ, pos, ◌-ℤ◌, ◌≤ℤ◌}
+use Rattle.std.proofs.Common.{◌≡◌, ◌≢◌, ℕ, ◌*◌, ◌<◌, ◌≤◌, refl, inl, inr, sym, ap, subst, ◌∙◌, arith, Bool, true, false, length, ℤ, pos, ◌≤ℤ◌}
 use Rattle.std.specs.Prelude.{unsigned_abs, if◌then◌else◌}
-use Rattle.std.specs.Int.{int_max, int_min}
+use Rattle.std.specs.Int.{int_min}
 use Rattle.std.proofs.lemmas.Int.{ints, clamps}
 use Rattle.std.proofs.lemmas.Bool.{cases_eq}
 use Rattle.std.proofs.lemmas.List.{length-set, get_or-set_same, get_or-set_other, length-replicate}
 use Rattle.std.proofs.lemmas.List.Elements.{All-set}
 use Rattle.location_terms.specs.Instance.{Instance, site_at, customer_at}
 use Rattle.location_terms.specs.Box.{Path, is_allowed, is_opened, is_free}
-use Rattle.location_terms.specs.Bound.{Duals, v_at, u_at, level_at, paid_at, cap_price, slack_of, share_of, bound_of}
+use Rattle.location_terms.specs.Bound.{Duals, v_at, u_at, level_at, paid_at, slack_of, share_of, bound_of}
 use Rattle.location_terms.specs.Fit.{DualsFit}
 use Rattle.location_terms.specs.declared.limits.TheConstants.{MAX_VALUE}
 use Rattle.location_terms.proofs.Totals.{total_zero, total_one}
@@ -16,16 +16,9 @@ use Rattle.dual_value.specs.Zeros.{zeros}
 use Rattle.dual_value.proofs.Zeros.{zero_v, zero_u, zeros_fit}
 use Rattle.dual_ascent.specs.Levels.{servers}
 use Rattle.dual_ascent.specs.Ascent.{with_v}
+use Rattle.dual_ascent.proofs.Plain.{nothing_paid, no_cap_price}
 use Rattle.dual_adjust.proofs.Violating.{is_server}
 use Rattle.tree_search.specs.Made.{IsMadeLeaf}
-
-pub nothing_paid : (allowed : Bool) (v level : ℤ) → (allowed ≡ true → v ≤ℤ level) → (if allowed then int_max (pos 0) (v -ℤ level) else pos 0) ≡ pos 0
-nothing_paid true v level low = let h = low refl in omega (arith, ints, clamps, h)
-nothing_paid false v level low = refl
-
-pub no_cap_price : (u : ℕ) (cap : Option ℕ) → u ≡ 0 → cap_price u cap ≡ 0
-no_cap_price u None e = refl
-no_cap_price u (Some cap) e = ap (λ x. x * cap) e ∙ omega arith
 
 pub no_share : (opened free : Bool) (slack : ℤ) → slack ≡ pos 0 → (if opened then slack else (if free then int_min (pos 0) slack else pos 0)) ≡ pos 0
 no_share true free slack e = e

@@ -6,30 +6,21 @@ ghost use Rattle.location_terms.specs.Certificate.{IsAccepted};
 ghost use Rattle.tree_search.specs.Answer.{AreHeld, certificate_in, cost_in};
 
 use crate::incumbent::plan_cost;
-use crate::tests::{customer, ring, site};
 use crate::{Answer, grow, max_nodes};
 use branch_tree::Tree;
 use dual_value::{bound, closes};
+use example_instances::{customer, ring, site, two_sites};
 use instance_store::{Instance, LaneRow, NoMemory, SiteId, SiteStatus};
 use lane_order::LaneOrder;
 use plan_meaning::Plan;
 use std::alloc::Global;
 use std::test::Fail;
 
-// Two sites that cost 10 and 12 units, in millionths, and three customers.
-fn pair(alloc: Global) -> Result<Instance, NoMemory> {
-    let first = LaneRow::from_slice(alloc, &[Some(1_000_000), Some(2_000_000), Some(9_000_000)])?;
-    let second = LaneRow::from_slice(alloc, &[Some(8_000_000), Some(7_000_000), Some(1_000_000)])?;
-    let sites = vec![in alloc; site(1, 10_000_000, first), site(2, 12_000_000, second)]?;
-    let custs = vec![in alloc; customer(1), customer(2), customer(3)]?;
-    Instance::from_parts(alloc, 0, 2, 3, 4, custs, sites)
-}
-
 // No lane leads to the third customer.
 fn cut_off(alloc: Global) -> Result<Instance, NoMemory> {
     let lanes = LaneRow::from_slice(alloc, &[Some(0), Some(0), None])?;
-    let sites = vec![in alloc; site(1, 2_000_000, lanes)]?;
-    let custs = vec![in alloc; customer(1), customer(2), customer(3)]?;
+    let sites = vec![in alloc; site(1, 2_000_000, None, lanes)]?;
+    let custs = vec![in alloc; customer(1, 0), customer(2, 0), customer(3, 0)]?;
     Instance::from_parts(alloc, 0, 1, 2, 4, custs, sites)
 }
 
@@ -286,7 +277,7 @@ fn splits_a_ring_within_the_budget(rt: HostRuntime) -> Result<(), Fail> {
 
 #[test]
 fn ends_where_the_root_closes(rt: HostRuntime) -> Result<(), Fail> {
-    let mut pair = pair(rt.alloc())?;
+    let mut pair = two_sites(rt.alloc(), 0, 2)?;
     let cut_off = cut_off(rt.alloc())?;
     assert!(rt; ends_at_roots(rt.alloc(), &pair, &cut_off)?);
     assert!(rt; settles_pair(rt.alloc(), &mut pair)?);

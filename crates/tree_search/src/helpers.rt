@@ -13,8 +13,8 @@ use dual_value::{Duals, PreparedBox};
 use instance_store::{Instance, NoMemory};
 use lane_order::LaneOrder;
 use plan_meaning::Plan;
-use plan_search::{LocalSearch, has_no_caps, improved_set};
-use side_multipliers::{LanePlace, LaneShare};
+use plan_search::{LocalSearch, has_no_caps, improved_set, plan_around};
+use side_multipliers::LanePlace;
 use std::alloc::Global;
 use std::marker::Model;
 use std::num::nearest_u64_to_f64;
@@ -32,8 +32,8 @@ pub(crate) enum Hint {
 
 /// The helpers of a search, made once: nothing that they propose is believed.
 #[derive(Drop)]
-pub(crate) struct Helpers {
-    pub(crate) steps: Steps,
+pub(crate) struct Helpers<'a> {
+    pub(crate) steps: Steps<'a>,
     // Where some site has a capacity.
     pub(crate) prices: Option<Prices>,
     local: LocalSearch,
@@ -42,7 +42,7 @@ pub(crate) struct Helpers {
     tried: Tried,
 }
 
-impl Model for Helpers {
+impl<'a> Model for Helpers<'a> {
     ghost use Rattle.dual_steps.specs.Sizes.{Sizes};
 
     ghost Value = { Sizes };
@@ -54,9 +54,13 @@ impl Model for Helpers {
     ghost invariant = { AreForSteps };
 }
 
-impl Helpers {
+impl<'a> Helpers<'a> {
     /// Helpers for this instance. It fails only where memory runs out.
-    pub(crate) fn of(alloc: Global, inst: &Instance, order: &LaneOrder) -> Result<Helpers, NoMemory>
+    pub(crate) fn of(
+        alloc: Global,
+        inst: &'a Instance,
+        order: &LaneOrder,
+    ) -> Result<Helpers<'a>, NoMemory>
         requires { IsOrderOf order.now inst.now }
         ensures { IfOk result (λ helpers. helpers ≡ sizes_of inst.now) }
     {
@@ -114,14 +118,44 @@ impl Helpers {
         }
     }
 
-    /// A lane of a box without free sites that stands in the way of duals which close it against what the
-    /// best plan costs.
-    pub(crate) fn obstacle(&mut self, cost: Option<u64>) -> Option<LanePlace>
+    /// The lane on which to split a box without free sites, where plans are sought that cost less than the best.
+    pub(crate) fn wanted_lane(&mut self, cost: Option<u64>) -> Option<LanePlace>
         ensures { self.new ≡ self.old }
     {
         match &mut self.prices {
             None => None,
-            Some(prices) => prices.obstacle(target_of(cost, f64::MAX)),
+            Some(prices) => {
+                let target = target_of(cost, prices.bound());
+                prices.split(target)
+            }
+        }
+    }
+
+    /// A plan in a box without free sites, around the sites from which most demand comes: none where none is
+    /// found. It fails only where memory runs out.
+    pub(crate) fn plan_of_flows(
+        &mut self,
+        alloc: Global,
+        boxed: &PreparedBox<'_>,
+    ) -> Result<Option<Plan>, NoMemory>
+        ensures feasible { IfOk result (λ plan. IfSome plan (IsFeasible boxed.now.instance)) }
+        ensures sizes { self.new ≡ self.old }
+    {
+        match &mut self.prices {
+            None => Ok(None),
+            Some(prices) => {
+                prices.name_suppliers();
+                let plan = plan_around(alloc, boxed, &mut self.local, prices.suppliers())?;
+                Ok(plan)
+            }
+        }
+    }
+
+    /// Whether steps in a box without free sites show that no plan is left there that costs less than the best.
+    pub(crate) fn shows(&self, cost: Option<u64>) -> bool {
+        match &self.prices {
+            None => false,
+            Some(prices) => prices.shows(target_of(cost, f64::MAX)),
         }
     }
 
@@ -148,24 +182,6 @@ impl Helpers {
         match &mut self.prices {
             Some(prices) => prices.rounded(alloc, scale),
             None => rounded_steps(alloc, order, &mut self.steps, scale),
-        }
-    }
-
-    /// Finds out which site steps in a box without free sites take most often for each customer.
-    pub(crate) fn weigh_lanes(&mut self)
-        ensures { self.new ≡ self.old }
-    {
-        if let Some(prices) = &mut self.prices {
-            prices.weigh_lanes();
-        }
-    }
-
-    /// For each customer the site that steps take most often for it, as the lanes were weighed last, by place;
-    /// none where no site has a capacity.
-    pub(crate) fn lane_shares(&self) -> &[LaneShare] {
-        match &self.prices {
-            Some(prices) => prices.lane_shares(),
-            None => &[],
         }
     }
 
@@ -228,7 +244,7 @@ fn target_of(cost: Option<u64>, bound: f64) -> f64 {
     }
 }
 
-fn shares_of<'s>(steps: &'s Steps, prices: &'s Option<Prices>) -> &'s [f64]
+fn shares_of<'s>(steps: &'s Steps<'_>, prices: &'s Option<Prices>) -> &'s [f64]
     requires { IfSome prices.now (λ p. p ≡ steps.now) }
     ensures { length result.now ≡ steps.now.sites }
 {
@@ -238,7 +254,7 @@ fn shares_of<'s>(steps: &'s Steps, prices: &'s Option<Prices>) -> &'s [f64]
     }
 }
 
-fn open_sites<'s>(steps: &'s Steps, prices: &'s Option<Prices>) -> &'s [bool]
+fn open_sites<'s>(steps: &'s Steps<'_>, prices: &'s Option<Prices>) -> &'s [bool]
     requires { IfSome prices.now (λ p. p ≡ steps.now) }
     ensures { length result.now ≡ steps.now.sites }
 {
@@ -252,7 +268,7 @@ fn open_sites<'s>(steps: &'s Steps, prices: &'s Option<Prices>) -> &'s [bool]
 fn rounded_steps(
     alloc: Global,
     order: &LaneOrder,
-    steps: &mut Steps,
+    steps: &mut Steps<'_>,
     scale: u32,
 ) -> Result<Duals, NoMemory>
     requires { Suits steps.old order.now }

@@ -6,16 +6,16 @@ ghost use Rattle.dual_steps.specs.Sizes.{sizes_of};
 use dual_value::{Duals, PreparedBox, SiteState};
 use instance_store::{Instance, NoMemory};
 use lane_order::LaneOrder;
-use side_multipliers::{AT_ROOT, CapSteps, IN_NODE, IN_ROOMS, LanePlace, LaneShare, RoomSteps};
+use side_multipliers::{AT_ROOT, CapSteps, IN_NODE, LanePlace, Transport};
 use std::alloc::Global;
 use std::marker::Model;
 
-/// The steps of an instance some site of which has a capacity. Those of boxes without free sites know
-/// better prices there.
+/// The steps of an instance some site of which has a capacity. In boxes without free sites the best prices
+/// are found without steps.
 #[derive(Drop)]
 pub(crate) struct Prices {
     caps: CapSteps,
-    rooms: RoomSteps,
+    rooms: Transport,
     // Whether the box at work has no free site.
     is_settled: bool,
 }
@@ -38,7 +38,7 @@ impl Prices {
         ensures { IfOk result (λ prices. prices ≡ sizes_of inst.now) }
     {
         let caps = CapSteps::of(alloc, inst, order)?;
-        let rooms = RoomSteps::of(alloc, inst, order)?;
+        let rooms = Transport::of(alloc, inst, order)?;
         Ok(Prices {
             caps,
             rooms,
@@ -55,8 +55,6 @@ impl Prices {
         self.is_settled = !has_free_site(boxed);
         if self.is_settled {
             self.rooms.enter(boxed, order);
-            self.rooms.restart(IN_ROOMS);
-            self.rooms.start_from(duals.prices(), duals.q());
             return;
         }
         self.caps.enter(boxed, order);
@@ -79,26 +77,46 @@ impl Prices {
         }
     }
 
-    /// Takes smoothed steps towards a bound of `target` millionths, up to so many.
+    /// Takes smoothed steps towards a bound of `target` millionths, up to so many; in a box without free sites
+    /// the best prices are found at once.
     pub(crate) fn step(&mut self, target: f64, steps: u32)
         ensures { self.new ≡ self.old }
     {
         if self.is_settled {
-            self.rooms.volume(target, steps);
+            self.rooms.solve(target);
         } else {
             self.caps.volume(target, steps);
         }
     }
 
-    /// A lane of a box without free sites that stands in the way of duals that show what steps do: that no
-    /// plan is left there that costs less than `target` millionths.
-    pub(crate) fn obstacle(&mut self, target: f64) -> Option<LanePlace>
+    /// The lane on which to split a box without free sites, where plans are sought that cost less than `target`
+    /// millionths.
+    pub(crate) fn split(&mut self, target: f64) -> Option<LanePlace>
         ensures { self.new ≡ self.old }
     {
-        if !self.is_settled || !self.rooms.shows(target) {
+        if !self.is_settled {
             return None;
         }
-        self.rooms.obstacle()
+        self.rooms.split(target)
+    }
+
+    /// Whether steps in a box without free sites show that no plan is left there that costs less than `target`
+    /// millionths.
+    pub(crate) fn shows(&self, target: f64) -> bool {
+        self.is_settled && self.rooms.shows(target)
+    }
+
+    /// Names for each customer, by place, the site from which most of its demand comes in a box without free
+    /// sites.
+    pub(crate) fn name_suppliers(&mut self)
+        ensures { self.new ≡ self.old }
+    {
+        self.rooms.name_suppliers();
+    }
+
+    /// The places of the sites that were named last, by the places of the customers.
+    pub(crate) fn suppliers(&self) -> &[usize] {
+        self.rooms.suppliers()
     }
 
     /// The best duals of the steps, rounded to parts of a millionth, `scale` of them. In boxes without free
@@ -134,20 +152,6 @@ impl Prices {
         ensures { length result.now ≡ self.now.sites }
     {
         self.caps.shares()
-    }
-
-    /// Finds out which site steps in a box without free sites take most often for each customer.
-    pub(crate) fn weigh_lanes(&mut self)
-        ensures { self.new ≡ self.old }
-    {
-        self.rooms.weigh_lanes();
-    }
-
-    /// For each customer the site that steps take most often for it, as the lanes were weighed last, by place.
-    pub(crate) fn lane_shares(&self) -> &[LaneShare]
-        ensures { length result.now ≡ self.now.customers }
-    {
-        self.rooms.lane_shares()
     }
 }
 

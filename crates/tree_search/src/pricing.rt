@@ -3,9 +3,9 @@ ghost use Rattle.std.specs.Prelude.{◌≡◌, OnOk};
 ghost use Rattle.tree_search.specs.Searching.{IsAt, GoesOn};
 
 use crate::helpers::Hint;
-use crate::proposing::{seek, seek_shares};
+use crate::proposing::{seat, seek, seek_shares};
 use crate::search::Search;
-use dual_value::{Decision, PreparedBox};
+use dual_value::PreparedBox;
 use instance_store::NoMemory;
 
 // The scale of leaves where some site has a capacity.
@@ -17,9 +17,6 @@ const ROOT_ROUNDS: u32 = 6;
 const ROOT_STEPS: u32 = 50;
 
 const NODE_STEPS: u32 = 20;
-
-// Steps where the last site is decided.
-const ROOM_STEPS: u32 = 300;
 
 /// Raises the bound by steps with prices, and looks for plans. It fails only where memory runs out.
 pub(crate) fn price(search: &mut Search<'_>, boxed: &PreparedBox<'_>) -> Result<(), NoMemory>
@@ -65,27 +62,25 @@ fn price_node(search: &mut Search<'_>, boxed: &PreparedBox<'_>) -> Result<(), No
     requires { IsAt boxed.now search.old }
     ensures { OnOk result (GoesOn boxed.now search.old search.new) }
 {
-    search.step_prices(steps_in(search, boxed));
+    search.step_prices(NODE_STEPS);
     search.point(boxed, SCALE)?;
-    seek(search, boxed, Hint::Tight)?;
-    seek(search, boxed, Hint::Taken)?;
+    // Where nothing is left but lanes that the box has to lose, no plan is left either.
+    if search.shows() {
+        return Ok(());
+    }
+    seek_near(search, boxed)?;
     Ok(())
 }
 
-// How many steps are taken in a box of some decisions.
-fn steps_in(search: &Search<'_>, boxed: &PreparedBox<'_>) -> u32 {
-    if is_new_room(search, boxed) {
-        ROOM_STEPS
-    } else {
-        NODE_STEPS
+// Looks for a plan around the flows where no site is free, and else around the sites that steps take.
+fn seek_near(search: &mut Search<'_>, boxed: &PreparedBox<'_>) -> Result<(), NoMemory>
+    requires { IsAt boxed.now search.old }
+    ensures { OnOk result (GoesOn boxed.now search.old search.new) }
+{
+    if search.helpers.is_settled() {
+        seat(search, boxed)?;
+        return Ok(());
     }
-}
-
-// Whether the box has no free site, and its last decision is on a site.
-fn is_new_room(search: &Search<'_>, boxed: &PreparedBox<'_>) -> bool {
-    search.helpers.is_settled()
-        && matches!(
-            boxed.path().as_slice().last(),
-            Some(Decision::Opened(_) | Decision::Closed(_))
-        )
+    seek(search, boxed, Hint::Taken)?;
+    Ok(())
 }

@@ -44,3 +44,14 @@ pub(crate) fn seek(
     search.offer(plan);
     Ok(())
 }
+
+/// Looks for a plan in a box without free sites, around the sites from which most demand comes. It fails only
+/// where memory runs out.
+pub(crate) fn seat(search: &mut Search<'_>, boxed: &PreparedBox<'_>) -> Result<(), NoMemory>
+    requires { IsAt boxed.now search.old }
+    ensures { OnOk result (GoesOn boxed.now search.old search.new) }
+{
+    let plan = search.helpers.plan_of_flows(search.alloc, boxed)?;
+    search.offer(plan);
+    Ok(())
+}

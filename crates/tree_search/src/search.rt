@@ -27,7 +27,7 @@ pub(crate) struct Search<'a> {
     pub(crate) alloc: Global,
     pub(crate) order: &'a LaneOrder,
     pub(crate) leaf: LeafMaker,
-    pub(crate) helpers: Helpers,
+    pub(crate) helpers: Helpers<'a>,
     incumbent: Incumbent<'a>,
 }
 
@@ -161,19 +161,17 @@ impl<'a> Search<'a> {
         self.helpers.step_prices(cost, steps);
     }
 
-    /// A lane of a box without free sites that stands in the way of duals which close it.
-    pub(crate) fn obstacle(&mut self) -> Option<LanePlace>
+    /// The lane on which to split a box without free sites.
+    pub(crate) fn wanted_lane(&mut self) -> Option<LanePlace>
         ensures { self.new ≡ self.old }
     {
         let cost = self.incumbent.cost();
-        self.helpers.obstacle(cost)
+        self.helpers.wanted_lane(cost)
     }
 
-    /// Finds out which site steps in a box without free sites take most often for each customer.
-    pub(crate) fn weigh_lanes(&mut self)
-        ensures { self.new ≡ self.old }
-    {
-        self.helpers.weigh_lanes();
+    /// Whether steps in a box without free sites show that no plan is left there that costs less than the best.
+    pub(crate) fn shows(&self) -> bool {
+        self.helpers.shows(self.incumbent.cost())
     }
 
     /// Forgets what the steps have smoothed, and lets them begin with this part of a whole step.

@@ -11,8 +11,7 @@ use branch_tree::Split;
 use dual_value::{PreparedBox, SiteState};
 use lane_order::LaneOrder;
 use plan_search::has_no_caps;
-use side_multipliers::{LanePlace, LaneShare};
-use std::num::nearest_u64_to_f64;
+use side_multipliers::LanePlace;
 
 // Where at most so many sites are free, they are split by their slacks alone.
 const FEW: usize = 8;
@@ -20,17 +19,13 @@ const FEW: usize = 8;
 // How far a share has to be from 0 and 1 to count.
 const LEAST_DOUBT: f64 = 0.01;
 
-// Where a lane is taken by more than this share of all steps, the customer isn't in doubt.
-const SURE: f64 = 0.95;
-
-/// The split on a lane of a box without free sites: the one that stands in the way, where there is one; else
-/// the lane that steps take most often for a customer for which they are in doubt; else the cheapest lane of
-/// the first customer that has two. None where nothing is left to decide.
+/// The split on a lane of a box without free sites: the wanted one, where the box allows it and another one to
+/// its customer; else the cheapest lane of the first customer that has two. None where nothing is left to
+/// decide.
 pub(crate) fn split_lane(
     boxed: &PreparedBox<'_>,
     order: &LaneOrder,
-    obstacle: Option<LanePlace>,
-    lane_shares: &[LaneShare],
+    wanted: Option<LanePlace>,
 ) -> Option<Split>
     requires order { IsOrderOf order.now boxed.now.instance }
     requires none_free { HasNoFreeSite boxed.now.instance boxed.now.path }
@@ -40,10 +35,6 @@ pub(crate) fn split_lane(
     if has_no_caps(boxed.instance()) {
         return None;
     }
-    let wanted = match obstacle {
-        None => shared_lane(boxed, lane_shares),
-        Some(lane) => Some(lane),
-    };
     match split_on(boxed, order, wanted) {
         None => split_first(boxed, order),
         Some(split) => Some(split),
@@ -70,36 +61,6 @@ fn split_on(boxed: &PreparedBox<'_>, order: &LaneOrder, wanted: Option<LanePlace
         return Some(Split::Lane(inst.site_id(site), inst.cust_id(cust)));
     }
     None
-}
-
-// The lane that steps take most often for the customer that is most in doubt.
-fn shared_lane(boxed: &PreparedBox<'_>, lane_shares: &[LaneShare]) -> Option<LanePlace> {
-    let cust = doubtful_customer(boxed, lane_shares)?;
-    Some(LanePlace {
-        site: lane_shares[cust].site,
-        cust,
-    })
-}
-
-// The place of the customer to split on: of those that have several lanes and no lane for nearly all of
-// their demand, the one with the greatest demand.
-fn doubtful_customer(boxed: &PreparedBox<'_>, lane_shares: &[LaneShare]) -> Option<usize>
-    ensures customer { IfSome result (λ j. j < length boxed.now.instance.customers) }
-    ensures share { IfSome result (λ j. j < length lane_shares.now) }
-{
-    let inst = boxed.instance();
-    let mut best = None;
-    let mut greatest = 0.0;
-    for cust in 0..lane_shares.len().min(inst.custs()) {
-        let lane = lane_shares[cust];
-        let doubt = if lane.share < SURE { 1.0 } else { 0.01 };
-        let weight = doubt * nearest_u64_to_f64(inst.demand(cust));
-        if lane.lanes > 1 && weight > greatest {
-            greatest = weight;
-            best = Some(cust);
-        }
-    }
-    best
 }
 
 // The split on the cheapest lane of the first customer that has two.

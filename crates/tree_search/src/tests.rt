@@ -1,4 +1,4 @@
-ghost use Rattle.std.specs.Prelude.{◌≡◌, IfOk, OnOk};
+ghost use Rattle.std.specs.Prelude.{IfOk, OnOk};
 ghost use Rattle.lane_order.specs.Order.{IsOrderOf};
 ghost use Rattle.tree_search.specs.Making.{Makes};
 
@@ -6,53 +6,23 @@ use crate::leaf_maker::LeafMaker;
 use crate::rays::{first_unserved, unserved_ray};
 use crate::search::is_fit;
 use dual_value::{Duals, Path, PreparedBox, bound};
-use instance_store::{CustId, CustRow, Instance, LaneRow, NoMemory, SiteId, SiteRow};
+use example_instances::{customer, ring, site};
+use instance_store::{Instance, LaneRow, NoMemory, SiteId};
 use lane_order::LaneOrder;
 use location_terms::{Decision, MAX_SCALE};
 use std::alloc::Global;
 use std::test::Fail;
 
-// Three sites of one cost, each of which serves two of the three customers for nothing.
-pub(crate) fn ring(alloc: Global) -> Result<Instance, NoMemory> {
-    let first = LaneRow::from_slice(alloc, &[Some(0), Some(0), None])?;
-    let second = LaneRow::from_slice(alloc, &[None, Some(0), Some(0)])?;
-    let third = LaneRow::from_slice(alloc, &[Some(0), None, Some(0)])?;
-    let sites = vec![in alloc;
-        site(1, 2_000_000, first),
-        site(2, 2_000_000, second),
-        site(3, 2_000_000, third),
-    ]?;
-    let custs = vec![in alloc; customer(1), customer(2), customer(3)]?;
-    Instance::from_parts(alloc, 0, 3, 4, 4, custs, sites)
-}
-
 // Two sites that serve the first customer for nothing, and each one of the others.
 fn shared(alloc: Global) -> Result<Instance, NoMemory> {
     let first = LaneRow::from_slice(alloc, &[Some(0), Some(0), None])?;
     let second = LaneRow::from_slice(alloc, &[Some(0), None, Some(0)])?;
-    let sites = vec![in alloc; site(1, 2_000_000, first), site(2, 2_000_000, second)]?;
-    let custs = vec![in alloc; customer(1), customer(2), customer(3)]?;
+    let sites = vec![in alloc;
+        site(1, 2_000_000, None, first),
+        site(2, 2_000_000, None, second),
+    ]?;
+    let custs = vec![in alloc; customer(1, 0), customer(2, 0), customer(3, 0)]?;
     Instance::from_parts(alloc, 0, 2, 3, 4, custs, sites)
-}
-
-pub(crate) fn site(id: u32, fixed: u64, lanes: LaneRow) -> SiteRow
-    ensures { result ≡ record { id = id; fixed = fixed; cap = None; lanes = lanes } }
-{
-    SiteRow {
-        id: SiteId::new(id),
-        fixed,
-        cap: None,
-        lanes,
-    }
-}
-
-pub(crate) fn customer(id: u32) -> CustRow
-    ensures { result ≡ record { id = id; demand = 0 } }
-{
-    CustRow {
-        id: CustId::new(id),
-        demand: 0,
-    }
 }
 
 // What is found of the box from zeros alone.

@@ -161,9 +161,8 @@ fn split_of(search: &mut Search<'_>, boxed: &PreparedBox<'_>) -> Option<Split>
     match split_place(boxed, slacks, missing, search.helpers.shares()) {
         Some(place) => Some(Split::Site(boxed.instance().site_id(place))),
         None => {
-            let obstacle = search.obstacle();
-            search.weigh_lanes();
-            split_lane(boxed, search.order, obstacle, search.helpers.lane_shares())
+            let wanted = search.wanted_lane();
+            split_lane(boxed, search.order, wanted)
         }
     }
 }

@@ -1,5 +1,0 @@
-use Rattle.std.proofs.Common.{◌≡◌}
-use Rattle.side_multipliers.proofs.room_steps.RoomSteps.volume.Given as goal
-
-abbrev pub invariant-loop-step : goal.invariant-loop-step
-invariant-loop-step l = record { sizes : l.self ≡ l.initial.self }
