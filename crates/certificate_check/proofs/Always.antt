@@ -1,25 +1,28 @@
 -- There is a verdict on any bytes: against what a line shows something speaks, or it stands.
-use Rattle.std.proofs.Common.{◌≡◌, ◌⊎◌, ℕ, ◌+◌, ◌<◌, ◌≤◌, List, [], ◌∷◌, length, take, refl, ap, arith, inl, inr, Ok, Err, zero, suc}
-use Rattle.std.specs.Prelude.{Option, None, Some, IsSomeAnd, ℤ, pos, ◌-ℤ◌, ◌*ℤ◌, ◌≤ℤ◌, ◌<ℤ◌, nat_lt, if◌then◌else◌}
+use Rattle.std.proofs.Common.{◌≡◌, ◌⊎◌, ℕ, ◌+◌, ◌≤◌, Bool, false, List, [], ◌∷◌, length, take, refl, ap, arith, inl, inr, Result, Ok, Err, zero, suc}
+use Rattle.std.specs.Prelude.{All, Option, None, Some, IsSomeAnd, ℤ, pos, ◌-ℤ◌, ◌*ℤ◌, ◌≤ℤ◌, ◌<ℤ◌, nat_lt}
 use Rattle.std.specs.List.{slice_split}
 use Rattle.std.proofs.lemmas.Int.{by_lt_z, ints}
-use Rattle.fixed_cost.specs.Words.{is_line_feed}
-use Rattle.shelf_lines.proofs.Split.{some_piece}
+use Rattle.std.proofs.lemmas.List.Elements.{All-nil, All-cons, All-head, All-tail}
+use Rattle.shelf_lines.specs.Line.{is_line_feed}
+use Rattle.location_terms.specs.declared.claim.Claim.{Claim}
 use Rattle.location_terms.specs.Instance.{Instance, IsValid}
 use Rattle.location_terms.specs.Plan.{cost_of}
 use Rattle.location_terms.specs.Bound.{bound_of}
 use Rattle.location_terms.specs.Fit.{BoundCloses}
 use Rattle.plan_meaning.proofs.Faults.{OrNot, same_or_not-number, feasible_or_fault}
+use Rattle.certificate_lines.specs.declared.fault.CertFault.{CertFault}
 use Rattle.certificate_lines.specs.Due.{Due, HeaderDue, Shown, NothingShown, PlanShown, SiteShown, LaneShown, LeafShown, Suits}
 use Rattle.certificate_lines.specs.Follow.{cost_claimed}
 use Rattle.certificate_lines.specs.Lines.{Said, read_line}
 use Rattle.certificate_lines.proofs.Gives.{gives-line}
 use Rattle.certificate_lines.proofs.PlansShown.{IsPlanned, plan-line}
+use Rattle.certificate_reader.specs.Transcript.{Transcript, line_first, transcript_from, transcript_of, transcript_within}
 use Rattle.certificate_check.specs.declared.verdict.Why.{Why}
 use Rattle.certificate_check.specs.declared.verdict.Why.TheVariants.{PlanRefused, CostDiffers, LeafOpen}
 use Rattle.certificate_check.specs.declared.verdict.Verdict.TheVariants.{No}
 use Rattle.certificate_check.specs.Judgement.{target_of, IsAgainst, Stands}
-use Rattle.certificate_check.specs.Verdict.{Answer, Outcome, Decided, fault_in, line_of, at_rest, TakesLine, LeadsTo, ComesTo, at_end, past_limit, IsVerdict, IsAnswer}
+use Rattle.certificate_check.specs.Verdict.{Answer, at_end, line_of, IsJudged, IsVerdict, IsAnswer}
 
 -- whether an optional cost is this one
 is_cost : (cost : ℕ) (claimed : Option ℕ) → OrNot (Some cost ≡ claimed)
@@ -72,31 +75,33 @@ judged I (LeafShown claim path d) planned =
       | inr fails ↦ inr (LeafOpen (bound_of I path d) d.q, (refl, refl, fails))
     ]
 
--- a line leads to an outcome, if what follows it does
-takes_some : (I : Instance) (n : ℕ) (said : Said) (follows : Due → Outcome → Type 0)
-    → ((next : Due) (shown : Shown) → said ≡ Ok (next, shown) → IsPlanned shown × ((outcome : Outcome) × follows next outcome)) → (outcome : Outcome) × TakesLine I n said follows outcome
-takes_some I n (Err kind) follows more = (fault_in kind n, refl)
-takes_some I n (Ok (next, shown)) follows more =
-    let behind = more next shown refl in
-    elim (judged I shown behind.0) [
-      | inl stands ↦ (behind.1.0, inr (stands, behind.1.1))
-      | inr against ↦ (Decided (Ok (No (line_of shown n) against.0)), inl (against.0, against.1, refl))
+-- what is shown has an answer
+some_judged : (I : Instance) (n : ℕ) (shown : List Shown) (end : Result Claim CertFault) → All IsPlanned shown → (answer : Answer) × IsJudged I n shown end answer
+some_judged I n [] end planned = (at_end end, refl)
+some_judged I n (s ∷ shown) end planned =
+    elim (judged I s (All-head IsPlanned s shown planned)) [
+      | inl stands ↦ let later = some_judged I (n + 1) shown end (All-tail IsPlanned s shown planned) in (later.0, inr (stands, later.1))
+      | inr against ↦ (Ok (No (line_of s n) against.0), inl (against.0, against.1, refl))
     ]
 
-leads_some : (I : Instance) (due : Due) (n : ℕ) (pieces : List (List ℕ)) → IsValid I → Suits I due → 0 < length pieces → (outcome : Outcome) × LeadsTo I due n pieces outcome
-leads_some I due n [] valid suits some = absurd (omega arith)
-leads_some I due n (rest ∷ []) valid suits some = (at_rest due n rest, refl)
-leads_some I due n (this ∷ next ∷ more) valid suits some =
-    takes_some I n (read_line I due this) (λ behind. LeadsTo I behind (n + 1) (next ∷ more))
-    (λ behind shown is. (plan-line I due this behind shown valid suits is, leads_some I behind (n + 1) (next ∷ more) valid ((gives-line I due this suits).good (behind, shown) is).0 (omega arith)))
+-- each plan that lines show is one
+line_planned : (n : ℕ) (said : Said) (follows : Due → Transcript) → ((next : Due) (shown : Shown) → said ≡ Ok (next, shown) → IsPlanned shown × All IsPlanned (follows next).shown) → All IsPlanned (line_first n said follows).shown
+line_planned n (Err kind) follows more = All-nil IsPlanned
+line_planned n (Ok (next, shown)) follows more = let behind = more next shown refl in All-cons IsPlanned shown (follows next).shown behind.0 behind.1
 
-coming : (I : Instance) (bytes : List ℕ) → IsValid I → (outcome : Outcome) × ComesTo I bytes outcome
-coming I bytes valid = leads_some I HeaderDue 1 (slice_split is_line_feed bytes) valid tt (some_piece bytes)
+all_planned : (longer : Bool) (I : Instance) (due : Due) (n : ℕ) (pieces : List (List ℕ)) → IsValid I → Suits I due → All IsPlanned (transcript_from longer I due n pieces).shown
+all_planned longer I due n [] valid suits = All-nil IsPlanned
+all_planned longer I due n (rest ∷ []) valid suits = All-nil IsPlanned
+all_planned longer I due n (this ∷ next ∷ more) valid suits =
+    line_planned n (read_line I due this) (λ behind. transcript_from longer I behind (n + 1) (next ∷ more))
+    (λ behind shown is. (plan-line I due this behind shown valid suits is, all_planned longer I behind (n + 1) (next ∷ more) valid ((gives-line I due this suits).good (behind, shown) is).0))
 
 pub some_verdict : (I : Instance) (bytes : List ℕ) → IsValid I → (answer : Answer) × IsVerdict I bytes answer
-some_verdict I bytes valid = let outcome = coming I bytes valid in (at_end outcome.0, (outcome.0, outcome.1, refl))
+some_verdict I bytes valid =
+    let read = transcript_of false I bytes in
+    some_judged I 1 read.shown read.end (all_planned false I HeaderDue 1 (slice_split is_line_feed bytes) valid tt)
 
 pub some_answer : (limit : ℕ) (I : Instance) (bytes : List ℕ) → IsValid I → (answer : Answer) × IsAnswer limit I bytes answer
 some_answer limit I bytes valid =
-    let outcome = coming I (take limit bytes) valid in
-    ((if nat_lt limit (length bytes) then past_limit outcome.0 else at_end outcome.0), (outcome.0, outcome.1, refl))
+    let read = transcript_within limit I bytes in
+    some_judged I 1 read.shown read.end (all_planned (nat_lt limit (length bytes)) I HeaderDue 1 (slice_split is_line_feed (take limit bytes)) valid tt)

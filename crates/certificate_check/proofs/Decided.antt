@@ -1,64 +1,45 @@
 -- That bytes decide each answer.
-use Rattle.std.proofs.Common.{◌≡◌, ℕ, ◌+◌, ◌<◌, Bool, true, false, List, [], ◌∷◌, length, take, Ok, Err, refl, sym, subst, inl, inr}
-use Rattle.std.specs.Prelude.{nat_lt, if◌then◌else◌}
+use Rattle.std.proofs.Common.{◌≡◌, ℕ, ◌+◌, ◌<◌, Bool, true, false, List, [], ◌∷◌, length, take, Result, Ok, Err, refl, sym, subst, inl, inr}
+use Rattle.std.specs.Prelude.{nat_lt}
 use Rattle.std.specs.List.{slice_split}
 use Rattle.std.proofs.lemmas.Bool.{ltb-true}
-use Rattle.fixed_cost.specs.Words.{is_line_feed}
+use Rattle.shelf_lines.specs.Line.{is_line_feed}
+use Rattle.location_terms.specs.declared.claim.Claim.{Claim}
 use Rattle.location_terms.specs.Instance.{Instance}
-use Rattle.certificate_lines.specs.Due.{Due, HeaderDue, NothingDue}
+use Rattle.certificate_lines.specs.declared.fault.CertFault.{CertFault}
+use Rattle.certificate_lines.specs.Due.{Due, HeaderDue, NothingDue, Shown}
 use Rattle.certificate_lines.specs.Lines.{Said, read_line}
-use Rattle.certificate_lines.specs.declared.fault.CertFault.TheVariants.{Text, TooLong, ReadFailed}
-use Rattle.certificate_lines.specs.declared.fault.CertFault.TheVariants as unread
-use Rattle.certificate_check.specs.Verdict.{Answer, Outcome, Decided, Undecided, TakesLine, LeadsTo, IsAnswer, IsDecided, at_rest, at_end, past_limit}
+use Rattle.certificate_reader.specs.Transcript.{Transcript, at_rest, line_first, transcript_from, transcript_within}
+use Rattle.certificate_check.specs.Judgement.{IsAgainst, Stands}
+use Rattle.certificate_check.specs.Verdict.{Answer, at_end, IsJudged, IsAnswer, IsDecided}
 
--- an outcome that lines lead to: what is decided in it is a verdict or a fault of the text
-abbrev IsFair : Outcome → Type 0
-IsFair (Decided (Ok verdict)) = Unit {0}
-IsFair (Decided (Err (Text kind line))) = Unit {0}
-IsFair (Decided (Err TooLong)) = ⊥
-IsFair (Decided (Err ReadFailed)) = ⊥
-IsFair (Decided (Err unread.NoMemory)) = ⊥
-IsFair (Undecided due line) = Unit {0}
+module _ (limit : ℕ) (bytes : List ℕ) where
+  -- an end that bytes decide
+  abbrev IsFair : Result Claim CertFault → Type 0
+  IsFair end = IsDecided limit bytes (at_end end)
 
-rest_fair : (due : Due) (line : ℕ) (rest : List ℕ) → IsFair (at_rest due line rest)
-rest_fair (NothingDue claim) line (b ∷ rest) = tt
-rest_fair due line rest = tt
+  rest_fair : (longer : Bool) → nat_lt limit (length bytes) ≡ longer → (due : Due) (line : ℕ) (rest : List ℕ) → IsFair (at_rest longer due line rest)
+  rest_fair longer is (NothingDue claim) line (b ∷ rest) = tt
+  rest_fair true is (NothingDue claim) line [] = ltb-true limit (length bytes) is
+  rest_fair false is (NothingDue claim) line [] = tt
+  rest_fair true is due line rest = ltb-true limit (length bytes) is
+  rest_fair false is due line rest = tt
 
-takes_fair : (I : Instance) (line : ℕ) (said : Said) (follows : Due → Outcome → Type 0) (outcome : Outcome)
-    → ((due : Due) → follows due outcome → IsFair outcome) → TakesLine I line said follows outcome → IsFair outcome
-takes_fair I line (Err kind) follows outcome later is = subst IsFair (sym is) tt
-takes_fair I line (Ok (due, shown)) follows outcome later (inl against) = subst IsFair (sym against.2) tt
-takes_fair I line (Ok (due, shown)) follows outcome later (inr on) = later due on.1
+  line_fair : (n : ℕ) (said : Said) (follows : Due → Transcript) → ((next : Due) → IsFair (follows next).end) → IsFair (line_first n said follows).end
+  line_fair n (Err kind) follows later = tt
+  line_fair n (Ok (next, shown)) follows later = later next
 
-leads_fair : (I : Instance) (due : Due) (line : ℕ) (pieces : List (List ℕ)) (outcome : Outcome) → LeadsTo I due line pieces outcome → IsFair outcome
-leads_fair I due line [] outcome leads = absurd leads
-leads_fair I due line (rest ∷ []) outcome leads = subst IsFair (sym leads) (rest_fair due line rest)
-leads_fair I due line (this ∷ next ∷ more) outcome leads =
-    takes_fair I line (read_line I due this) _ outcome (λ due'. leads_fair I due' (line + 1) (next ∷ more) outcome) leads
+  all_fair : (longer : Bool) → nat_lt limit (length bytes) ≡ longer → (I : Instance) (due : Due) (n : ℕ) (pieces : List (List ℕ)) → IsFair (transcript_from longer I due n pieces).end
+  all_fair longer is I due n [] = rest_fair longer is due n []
+  all_fair longer is I due n (rest ∷ []) = rest_fair longer is due n rest
+  all_fair longer is I due n (this ∷ next ∷ more) = line_fair n (read_line I due this) (λ behind. transcript_from longer I behind (n + 1) (next ∷ more)) (λ behind. all_fair longer is I behind (n + 1) (next ∷ more))
 
-end_decides : (limit : ℕ) (bytes : List ℕ) (outcome : Outcome) → IsFair outcome → IsDecided limit bytes (at_end outcome)
-end_decides limit bytes (Decided (Ok verdict)) fair = tt
-end_decides limit bytes (Decided (Err (Text kind line))) fair = tt
-end_decides limit bytes (Decided (Err TooLong)) fair = absurd fair
-end_decides limit bytes (Decided (Err ReadFailed)) fair = fair
-end_decides limit bytes (Decided (Err unread.NoMemory)) fair = fair
-end_decides limit bytes (Undecided (NothingDue claim) line) fair = tt
-end_decides limit bytes (Undecided due line) fair = tt
-
-limit_decides : (limit : ℕ) (bytes : List ℕ) (outcome : Outcome) → limit < length bytes → IsFair outcome → IsDecided limit bytes (past_limit outcome)
-limit_decides limit bytes (Decided (Ok verdict)) longer fair = tt
-limit_decides limit bytes (Decided (Err (Text kind line))) longer fair = tt
-limit_decides limit bytes (Decided (Err TooLong)) longer fair = longer
-limit_decides limit bytes (Decided (Err ReadFailed)) longer fair = fair
-limit_decides limit bytes (Decided (Err unread.NoMemory)) longer fair = fair
-limit_decides limit bytes (Undecided due line) longer fair = longer
-
-within_or_past : (limit : ℕ) (bytes : List ℕ) (outcome : Outcome) (b : Bool) → nat_lt limit (length bytes) ≡ b → IsFair outcome
-    → IsDecided limit bytes (if b then past_limit outcome else at_end outcome)
-within_or_past limit bytes outcome true longer fair = limit_decides limit bytes outcome (ltb-true limit (length bytes) longer) fair
-within_or_past limit bytes outcome false within fair = end_decides limit bytes outcome fair
+  judged_fair : (I : Instance) (n : ℕ) (shown : List Shown) (end : Result Claim CertFault) (answer : Answer) → IsFair end → IsJudged I n shown end answer → IsDecided limit bytes answer
+  judged_fair I n [] end answer fair judged = subst (IsDecided limit bytes) (sym judged) fair
+  judged_fair I n (s ∷ shown) end answer fair (inl against) = subst (IsDecided limit bytes) (sym against.2) tt
+  judged_fair I n (s ∷ shown) end answer fair (inr on) = judged_fair I (n + 1) shown end answer fair on.1
 
 pub answer_decided : (limit : ℕ) (I : Instance) (bytes : List ℕ) (answer : Answer) → IsAnswer limit I bytes answer → IsDecided limit bytes answer
 answer_decided limit I bytes answer is =
-    let fair = leads_fair I HeaderDue 1 (slice_split is_line_feed (take limit bytes)) is.0 is.1 in
-    subst (IsDecided limit bytes) (sym is.2) (within_or_past limit bytes is.0 (nat_lt limit (length bytes)) refl fair)
+    let read = transcript_within limit I bytes in
+    judged_fair limit bytes I 1 read.shown read.end answer (all_fair limit bytes (nat_lt limit (length bytes)) refl I HeaderDue 1 (slice_split is_line_feed (take limit bytes))) is

@@ -18,7 +18,7 @@ use Rattle.certificate_lines.specs.Follow.{cost_claimed, HasSmallCosts, IsSpella
 use Rattle.certificate_check.specs.Judgement.{target_of, Stands}
 
 -- what holds of all of a list holds of its two parts
-parts : {X : Type 0} (P : X → Type 0) (xs ys : List X) → All P (xs ++ ys) → All P xs × All P ys
+pub parts : {X : Type 0} (P : X → Type 0) (xs ys : List X) → All P (xs ++ ys) → All P xs × All P ys
 parts P xs ys all = (λ k d within. subst P (get_or_append_left xs ys d k within) (all k d (omega (arith, length-append xs ys))), λ k d within. subst P (get_or-append-add xs ys k d) (all (length xs + k) d (omega (arith, length-append xs ys))))
 
 -- leaves whose duals fit, and against which nothing speaks, close

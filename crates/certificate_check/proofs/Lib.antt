@@ -1,12 +1,7 @@
+pub mod Standing
 pub mod Always
+pub mod Answers
 pub mod Decided
-pub mod Exits
-pub mod Followed
 pub mod Judged
-pub mod Lines
 pub mod Meaning
 pub mod One
-pub mod Passed
-pub mod Rest
-pub mod Untold
-pub mod Within

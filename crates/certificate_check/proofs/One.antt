@@ -1,21 +1,20 @@
--- A text has just one verdict: one part of feasibility is the first that fails, one thing speaks against what is shown, and a line leads to one outcome.
-use Rattle.std.proofs.Common.{◌≡◌, ℕ, ◌+◌, List, [], ◌∷◌, length, take, refl, sym, ap, ◌∙◌, inl, inr, Ok, Err}
-use Rattle.std.specs.Prelude.{nat_lt, if◌then◌else◌}
-use Rattle.std.specs.List.{slice_split}
-use Rattle.fixed_cost.specs.Words.{is_line_feed}
+-- A text has just one verdict: one part of feasibility is the first that fails, and one thing speaks against what is shown.
+use Rattle.std.proofs.Common.{◌≡◌, ℕ, ◌+◌, List, [], ◌∷◌, refl, sym, ap, ◌∙◌, false, Result, inl, inr, Ok}
+use Rattle.location_terms.specs.declared.claim.Claim.{Claim}
 use Rattle.location_terms.specs.Instance.{Instance}
 use Rattle.location_terms.specs.Plan.{Plan}
 use Rattle.plan_meaning.specs.declared.fault.PlanFault.{PlanFault}
 use Rattle.plan_meaning.specs.declared.fault.PlanFault.TheVariants.{UnknownSite, NotEachCustomerOnce, ServedByClosed, NoLane, OverCapacity, SiteCount, StatusBroken}
 use Rattle.plan_meaning.specs.PlanFault.{IsFirstFault}
-use Rattle.certificate_lines.specs.Due.{Due, HeaderDue, Shown, PlanShown, LeafShown}
-use Rattle.certificate_lines.specs.Lines.{Said, read_line}
+use Rattle.certificate_lines.specs.declared.fault.CertFault.{CertFault}
+use Rattle.certificate_lines.specs.Due.{Shown, PlanShown, LeafShown}
+use Rattle.certificate_reader.specs.Transcript.{transcript_of, transcript_within}
 use Rattle.certificate_check.specs.declared.verdict.Why.{Why}
 use Rattle.certificate_check.specs.declared.verdict.Why.TheVariants.{PlanRefused, CostDiffers, LeafOpen}
 use Rattle.certificate_check.specs.declared.verdict.Verdict.TheVariants.{No}
 use Rattle.certificate_check.specs.Judgement.{IsAgainst}
-use Rattle.certificate_check.specs.Verdict.{Answer, Outcome, Decided, line_of, TakesLine, LeadsTo, ComesTo, at_end, past_limit, IsVerdict, IsAnswer}
-use Rattle.certificate_check.proofs.Followed.{no_fault, none_against}
+use Rattle.certificate_check.specs.Verdict.{Answer, line_of, IsJudged, IsVerdict, IsAnswer}
+use Rattle.certificate_check.proofs.Standing.{no_fault, none_against}
 
 -- where two faults are named, the part of the earlier one fails and holds
 one_fault : (I : Instance) (P : Plan) (a b : PlanFault) → IsFirstFault I P a → IsFirstFault I P b → a ≡ b
@@ -49,26 +48,16 @@ one_reason I (PlanShown claim P) a (LeafOpen y q) is_a is_b = absurd is_b
 one_reason I (LeafShown claim path d) (LeafOpen x p) b is_a is_b = absurd is_b
 one_reason I shown a b is_a is_b = absurd is_a
 
--- a line leads to one outcome, if what follows it does
-one_said : (I : Instance) (n : ℕ) (said : Said) (follows : Due → Outcome → Type 0) (x y : Outcome) → ((due : Due) → follows due x → follows due y → x ≡ y) → TakesLine I n said follows x → TakesLine I n said follows y → x ≡ y
-one_said I n (Err kind) follows x y later is_x is_y = is_x ∙ sym is_y
-one_said I n (Ok (due, shown)) follows x y later (inl a) (inl b) = a.2 ∙ ap (λ why. Decided (Ok (No (line_of shown n) why))) (one_reason I shown a.0 b.0 a.1 b.1) ∙ sym b.2
-one_said I n (Ok (due, shown)) follows x y later (inl a) (inr b) = absurd (none_against I shown a.0 b.0 a.1)
-one_said I n (Ok (due, shown)) follows x y later (inr a) (inl b) = absurd (none_against I shown b.0 a.0 b.1)
-one_said I n (Ok (due, shown)) follows x y later (inr a) (inr b) = later due a.1 b.1
-
-one_outcome : (I : Instance) (due : Due) (n : ℕ) (pieces : List (List ℕ)) (x y : Outcome) → LeadsTo I due n pieces x → LeadsTo I due n pieces y → x ≡ y
-one_outcome I due n [] x y is_x is_y = absurd is_x
-one_outcome I due n (rest ∷ []) x y is_x is_y = is_x ∙ sym is_y
-one_outcome I due n (this ∷ next ∷ more) x y is_x is_y =
-    one_said I n (read_line I due this) (λ due. LeadsTo I due (n + 1) (next ∷ more)) x y (λ due. one_outcome I due (n + 1) (next ∷ more) x y) is_x is_y
-
-one_coming : (I : Instance) (bytes : List ℕ) (x y : Outcome) → ComesTo I bytes x → ComesTo I bytes y → x ≡ y
-one_coming I bytes = one_outcome I HeaderDue 1 (slice_split is_line_feed bytes)
+-- what is shown has one answer
+one_judged : (I : Instance) (n : ℕ) (shown : List Shown) (end : Result Claim CertFault) (a b : Answer) → IsJudged I n shown end a → IsJudged I n shown end b → a ≡ b
+one_judged I n [] end a b is_a is_b = is_a ∙ sym is_b
+one_judged I n (s ∷ shown) end a b (inl x) (inl y) = x.2 ∙ ap (λ why. Ok (No (line_of s n) why)) (one_reason I s x.0 y.0 x.1 y.1) ∙ sym y.2
+one_judged I n (s ∷ shown) end a b (inl x) (inr y) = absurd (none_against I s x.0 y.0 x.1)
+one_judged I n (s ∷ shown) end a b (inr x) (inl y) = absurd (none_against I s y.0 x.0 y.1)
+one_judged I n (s ∷ shown) end a b (inr x) (inr y) = one_judged I (n + 1) shown end a b x.1 y.1
 
 pub one_verdict : (I : Instance) (bytes : List ℕ) (a b : Answer) → IsVerdict I bytes a → IsVerdict I bytes b → a ≡ b
-one_verdict I bytes a b is_a is_b = is_a.2 ∙ ap at_end (one_coming I bytes is_a.0 is_b.0 is_a.1 is_b.1) ∙ sym is_b.2
+one_verdict I bytes = let read = transcript_of false I bytes in one_judged I 1 read.shown read.end
 
 pub one_answer : (limit : ℕ) (I : Instance) (bytes : List ℕ) (a b : Answer) → IsAnswer limit I bytes a → IsAnswer limit I bytes b → a ≡ b
-one_answer limit I bytes a b is_a is_b =
-    is_a.2 ∙ ap (λ outcome. if nat_lt limit (length bytes) then past_limit outcome else at_end outcome) (one_coming I (take limit bytes) is_a.0 is_b.0 is_a.1 is_b.1) ∙ sym is_b.2
+one_answer limit I bytes = let read = transcript_within limit I bytes in one_judged I 1 read.shown read.end

@@ -1,26 +1,23 @@
 // The checker, which takes a certificate a line at a time.
-ghost use Rattle.std.specs.Prelude.{◌≡◌, ◌⊎◌, ℕ, ◌+◌, ◌≤◌, List, [], ◌∷◌, ◌++◌, length, Option, IfErr, OnOk, IsErrOf, ⊤};
-ghost use Rattle.location_terms.specs.Instance.{Instance as Network};
+ghost use Rattle.std.specs.Prelude.{◌≡◌, ◌⊎◌, ℕ, ◌≤◌, List, [], length, Option, IsErrOf};
 ghost use Rattle.location_terms.specs.Plan.{Plan};
 ghost use Rattle.location_terms.specs.Optimal.{ClaimHolds};
 ghost use Rattle.location_terms.specs.Certificate.{Certificate, IsAccepted};
 ghost use Rattle.certificate_lines.specs.Follow.{HasSmallCosts};
+ghost use Rattle.certificate_lines.specs.Form.{shown_of};
 ghost use Rattle.certificate_lines.specs.Text.{certificate_text};
-ghost use Rattle.shelf_port.specs.Files.{HasFile, MayHold, Rose, NeverFalls};
-ghost use Rattle.shelf_lines.specs.Line.{IsLine};
-ghost use Rattle.shelf_lines.specs.Rest.{start_of, ForFile, TellsFile, rest_of, unread};
-ghost use Rattle.certificate_lines.specs.Due.{Due, NothingDue};
-ghost use Rattle.certificate_lines.specs.Form.{due_of};
-ghost use Rattle.certificate_check.specs.Step.{IsUnread, IsAnswerFrom, MayClose, MayMiss, claim_behind};
-ghost use Rattle.certificate_check.specs.Verdict.{IsAnswer};
+ghost use Rattle.shelf_port.specs.Files.{MayHold, Rose, NeverFalls};
+ghost use Rattle.shelf_lines.specs.Rest.{TellsFile};
+ghost use Rattle.certificate_reader.specs.Behind.{IsBehind};
+ghost use Rattle.certificate_check.specs.Verdict.{IsAnswer, IsUnread, line_of};
 
-use crate::step::{Step, take_line};
-use crate::{CertFault, CertKind, MAX_CERTIFICATE_BYTES, Verdict};
-use certificate_lines::Form;
+use crate::against::against;
+use crate::{CertFault, MAX_CERTIFICATE_BYTES, Verdict};
+use certificate_lines::Shown;
+use certificate_reader::{CertReader, Seen};
 use dual_value::BoxBounds;
 use instance_store::Instance;
 use location_terms::Claim;
-use shelf_lines::{Ahead, LineFault, LineReader, Next};
 use shelf_port::Shelf;
 use std::alloc::Global;
 
@@ -63,22 +60,22 @@ pub fn check<H: Shelf>(
 {
     // An instance is valid, so that what an accepted certificate claims of it holds.
     let _sites = inst.sites();
-    let mut reader = LineReader::new(alloc, MAX_CERTIFICATE_BYTES);
+    let mut reader = CertReader::new(alloc, MAX_CERTIFICATE_BYTES);
     check_lines(alloc, inst, &mut reader, shelf, name)
 }
 
-// The answer on the lines that a new reader hands out.
+// The answer on what a new reader comes to.
 pub(crate) fn check_lines<H: Shelf>(
     alloc: Global,
     inst: &Instance,
-    reader: &mut LineReader,
+    reader: &mut CertReader,
     shelf: &mut H,
     name: &str,
 ) -> Result<Verdict, CertFault>
-    requires start { reader.old ≡ start_of reader.old.limit }
-    requires within { reader.old.limit ≤ MAX_CERTIFICATE_BYTES }
-    ensures answer { IsUnread result ⊎ ((bytes : List ℕ) × MayHold (H.files shelf.old) name.now bytes
-        × IsAnswer reader.old.limit inst.now bytes result) }
+    requires start { (limit : ℕ) × IsBehind (H.files shelf.old) name.now limit inst.now [] reader.old }
+    ensures answer { (limit : ℕ) → IsBehind (H.files shelf.old) name.now limit inst.now [] reader.old →
+        IsUnread result ⊎ ((bytes : List ℕ) × MayHold (H.files shelf.old) name.now bytes
+        × IsAnswer limit inst.now bytes result) }
     ensures failed { IsErrOf result CertFault.ReadFailed →
         Rose (H.read_faults shelf.old name.now) (H.read_faults shelf.new name.now) }
 
@@ -87,98 +84,26 @@ pub(crate) fn check_lines<H: Shelf>(
     ensures writes { NeverFalls (H.write_faults shelf.old) (H.write_faults shelf.new) }
 {
     let mut bounds = BoxBounds::of(alloc, inst);
-    let mut form = Form::Header;
-    let mut line = 1;
     loop {
-        if let Some(claim) = claim_behind(&form) {
-            return close(reader, shelf, name, claim, line);
+        match reader.next(alloc, inst, shelf, name)? {
+            Seen::Whole(claim) => return Ok(Verdict::Yes(claim)),
+            Seen::Line(line, shown) => {
+                if let Some(why) = against(inst, &mut bounds, &shown) {
+                    let line = line_of(&shown, line);
+                    return Ok(Verdict::No { line, why });
+                }
+            }
         }
-        hand_out(reader, shelf, name, line)?;
-        match take_line(alloc, inst, &mut bounds, form, reader.line(), line)? {
-            Step::On(due) => form = due,
-            Step::Says(verdict) => return Ok(verdict),
-        }
-        line += 1;
     }
 }
 
-// The answer behind the last line of a text: nothing may follow it.
-fn close<H: Shelf>(
-    reader: &mut LineReader,
-    shelf: &mut H,
-    name: &str,
-    claim: Claim,
-    line: u64,
-) -> Result<Verdict, CertFault>
-    ensures answer { IsUnread result ⊎ ForFile (H.files shelf.old) name.now
-        (λ file. (I : Network) →
-        IsAnswerFrom reader.old.limit I (NothingDue claim) line (rest_of reader.old file) file result) }
-    ensures kind { IsUnread result ⊎ MayClose claim line (unread reader.old) result }
-    ensures failed { IsErrOf result CertFault.ReadFailed →
-        Rose (H.read_faults shelf.old name.now) (H.read_faults shelf.new name.now) }
-
-    ensures unchanged { H.files shelf.new ≡ H.files shelf.old }
-    ensures reads { NeverFalls (H.read_faults shelf.old) (H.read_faults shelf.new) }
-    ensures writes { NeverFalls (H.write_faults shelf.old) (H.write_faults shelf.new) }
+// The line to which a judgement belongs, where this line completes what is judged: the first of a
+// leaf's three.
+fn line_of(shown: &Shown, line: u64) -> u64
+    ensures { result ≡ line_of (shown_of shown.now) line }
 {
-    match reader.peek(shelf, name) {
-        Ok(Ahead::Bytes) => Err(CertFault::Text {
-            kind: CertKind::Trailing,
-            line,
-        }),
-        Ok(Ahead::End) => Ok(Verdict::Yes(claim)),
-        Ok(Ahead::Limit) => Err(CertFault::TooLong),
-        Err(LineFault::Failed) => Err(CertFault::ReadFailed),
-        Err(LineFault::NoMemory) => Err(CertFault::NoMemory),
-    }
-}
-
-// Hands out the line of this number.
-fn hand_out<H: Shelf>(
-    reader: &mut LineReader,
-    shelf: &mut H,
-    name: &str,
-    line: u64,
-) -> Result<(), CertFault>
-    ensures rest { OnOk result (ForFile (H.files shelf.old) name.now
-        (λ file. rest_of reader.old file ≡ reader.new.line ++ 10 ∷ rest_of reader.new file)) }
-    ensures is_line { OnOk result (IsLine reader.new.line) }
-    ensures there { OnOk result (reader.old.ahead ≡ [] →
-        HasFile (H.files shelf.old) name.now (λ _. ⊤)) }
-    ensures unread { OnOk result (unread reader.old ≡ length reader.new.line + 1 + unread reader.new) }
-    ensures same_limit { reader.new.limit ≡ reader.old.limit }
-
-    ensures kind { IfErr result (λ fault. IsUnread (Err fault) ⊎ MayMiss line fault) }
-
-    // Where no line feed is left, a line is due that the file doesn't have.
-    ensures none { IfErr result (λ fault. IsUnread (Err fault) ⊎ HasFile (H.files shelf.old) name.now
-        (λ file. (I : Network) (due : Due) → claim_behind due ≡ None →
-        IsAnswerFrom reader.old.limit I due line (rest_of reader.old file) file (Err fault))) }
-    ensures failed { IsErrOf result CertFault.ReadFailed →
-        Rose (H.read_faults shelf.old name.now) (H.read_faults shelf.new name.now) }
-
-    ensures unchanged { H.files shelf.new ≡ H.files shelf.old }
-    ensures reads { NeverFalls (H.read_faults shelf.old) (H.read_faults shelf.new) }
-    ensures writes { NeverFalls (H.write_faults shelf.old) (H.write_faults shelf.new) }
-{
-    match reader.next(shelf, name) {
-        Ok(Next::Line) => Ok(()),
-        Ok(Next::End) => Err(CertFault::Text {
-            kind: CertKind::Ended,
-            line,
-        }),
-        Ok(Next::Limit) => Err(CertFault::TooLong),
-        Err(LineFault::Failed) => Err(CertFault::ReadFailed),
-        Err(LineFault::NoMemory) => Err(CertFault::NoMemory),
-    }
-}
-
-// The claim of a text that is whole where this is due.
-fn claim_behind(form: &Form) -> Option<Claim>
-    ensures { result ≡ claim_behind (due_of form.now) }
-{
-    match form {
-        Form::Nothing(claim) => Some(*claim),
-        _ => None,
+    match shown {
+        Shown::Leaf(..) => line.saturating_sub(2),
+        _ => line,
     }
 }

@@ -4,7 +4,7 @@ ghost use Rattle.std.specs.Prelude.{None};
 use super::*;
 use crate::checker::check_lines;
 use crate::tests::example;
-use shelf_lines::LineReader;
+use certificate_reader::CertReader;
 use shelf_port::{Shelf, ShelfFault};
 use std::alloc::Global;
 use std::test::Fail;
@@ -44,7 +44,7 @@ impl Shelf for Endless {
 fn says(alloc: Global, second: u8, expected: CertFault) -> Result<bool, Fail> {
     let inst = example(alloc)?;
     let mut shelf = Endless { second };
-    let mut reader = LineReader::new(alloc, 1_000_000);
+    let mut reader = CertReader::new(alloc, 1_000_000);
     Ok(check_lines(alloc, &inst, &mut reader, &mut shelf, "k") == Err(expected))
 }
 

@@ -4,10 +4,9 @@
 mod against;
 mod checker;
 mod laws;
-mod step;
 mod verdict;
 
-pub use certificate_lines::{CertFault, CertKind, MAX_CERTIFICATE_BYTES};
+pub use certificate_reader::{CertFault, CertKind, MAX_CERTIFICATE_BYTES};
 pub use checker::check;
 pub use laws::verdicts;
 pub use verdict::{Verdict, Why};

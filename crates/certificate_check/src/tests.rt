@@ -2,10 +2,10 @@ ghost use Rattle.std.specs.Prelude.{◌<◌};
 
 use super::*;
 use crate::checker::check_lines;
+use certificate_reader::CertReader;
 use instance_store::{CustId, CustRow, Instance, LaneRow, NoMemory, SiteId, SiteRow};
 use location_terms::Claim;
 use plan_meaning::PlanFault;
-use shelf_lines::LineReader;
 use shelf_port::MemShelf;
 use std::alloc::Global;
 use std::test::Fail;
@@ -225,7 +225,7 @@ fn says_within(
 {
     let inst = example(alloc)?;
     let mut shelf = shelf_of(alloc, text_with(alloc, 0, b"")?, WIDE, 0)?;
-    let mut reader = LineReader::new(alloc, limit);
+    let mut reader = CertReader::new(alloc, limit);
     Ok(check_lines(alloc, &inst, &mut reader, &mut shelf, "k") == expected)
 }
 

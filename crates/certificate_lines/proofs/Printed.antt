@@ -6,7 +6,7 @@ use Rattle.std.proofs.lemmas.Bool.{cases_Bool, and_parts, and_from, eqb-true, no
 use Rattle.std.proofs.lemmas.List.{append-nil}
 use Rattle.std.proofs.lemmas.List.Elements.{All-nil, All-cons, All-head, All-tail, All-append}
 use Rattle.std.proofs.lemmas.List.Splits.{join_with_byte-slice_split, slice_split_at}
-use Rattle.fixed_cost.specs.Words.{is_blank, is_line_feed}
+use Rattle.number_words.specs.Line.{is_blank, is_line_feed}
 use Rattle.number_words.specs.Line.{is_word, spaced}
 use Rattle.number_words.specs.Number.{number_text}
 use Rattle.number_words.proofs.Lines.{is_word-number_text, is_word-micro_text}

@@ -11,7 +11,7 @@ use Rattle.location_terms.specs.declared.claim.Claim.TheVariants.{Optimal, Infea
 use Rattle.location_terms.specs.declared.limits.TheConstants.{MAX_COST, MAX_SITES, MAX_CUSTOMERS}
 use Rattle.location_terms.specs.Instance.{Instance, IsValid, site_ids}
 use Rattle.location_terms.specs.Box.{must_open, must_close}
-use Rattle.fixed_cost.specs.Print.{micro_text}
+use Rattle.number_words.specs.Cost.{micro_text}
 use Rattle.number_words.specs.Line.{is_word, spaced}
 use Rattle.number_words.specs.Number.{number_of, number_text}
 use Rattle.number_words.specs.Cost.{is_cost, is_plain_cost, cost_of}
@@ -80,10 +80,7 @@ must_closed-read I valid = record { said = read_status-printed I (codes "must-cl
 
 -- a printed cost of the claim
 spelled_cost : (n : ℕ) → n ≤ MAX_COST → (is_cost (micro_text n) ≡ true) × (is_plain_cost (micro_text n) ≡ true) × (cost_of (micro_text n) ≡ n)
-spelled_cost n small = (is_cost-micro_text n, is_plain_cost-micro_text n (below n small), cost_of-micro_text n (below n small))
-  where
-    below : (n : ℕ) → n ≤ MAX_COST → n < 10 ^ 70
-    below n small = omega arith
+spelled_cost n small = (is_cost-micro_text n, is_plain_cost-micro_text n, cost_of-micro_text n)
 
 -- a cost is no other word of a claim
 cost-other : (w word : List ℕ) → is_cost w ≡ true → is_cost word ≡ false → bytes_eq w word ≡ false

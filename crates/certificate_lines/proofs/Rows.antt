@@ -6,7 +6,7 @@ use Rattle.std.proofs.lemmas.Bool.{cases_Bool, cases_lt, and_left, and_parts, lt
 use Rattle.std.proofs.lemmas.Cmp.{nat_eq_equiv}
 use Rattle.std.proofs.lemmas.Int.{ints}
 use Rattle.std.proofs.lemmas.List.{length-drop}
-use Rattle.fixed_cost.specs.Words.{is_blank}
+use Rattle.number_words.specs.Line.{is_blank}
 use Rattle.number_words.specs.Line.{words_of_line}
 use Rattle.number_words.specs.Number.{is_number, is_rising}
 use Rattle.certificate_lines.specs.declared.kind.CertKind.{CertKind}

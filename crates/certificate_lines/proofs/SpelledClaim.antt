@@ -6,7 +6,7 @@ use Rattle.std.proofs.lemmas.Bool.{and_parts, or_cases, not-true, both_ways, leb
 use Rattle.location_terms.specs.declared.claim.Claim.{Claim}
 use Rattle.location_terms.specs.declared.claim.Claim.TheVariants.{Optimal, Infeasible, Bracket}
 use Rattle.location_terms.specs.declared.limits.TheConstants.{MAX_COST}
-use Rattle.fixed_cost.specs.Print.{micro_text}
+use Rattle.number_words.specs.Cost.{micro_text}
 use Rattle.number_words.specs.Line.{words_of_line, spaced, is_spaced}
 use Rattle.number_words.specs.Cost.{is_cost, is_plain_cost, cost_of}
 use Rattle.number_words.proofs.Costs.{micro_text-cost_of}
@@ -23,7 +23,7 @@ cost_word w cost plain small =
     let is_plain : is_plain_cost w ≡ true = elim (or_cases (not (is_cost w)) (is_plain_cost w) plain) [ inl none ↦ absurd (both_ways (is_cost w) (not-true (is_cost w) none) cost) | inr yes' ↦ yes' ] in
     let is_small : nat_le (cost_of w) MAX_COST ≡ true = elim (or_cases (not (is_cost w)) (nat_le (cost_of w) MAX_COST) small) [ inl none ↦ absurd (both_ways (is_cost w) (not-true (is_cost w) none) cost) | inr yes' ↦ yes' ] in
     let low = leb-true (cost_of w) MAX_COST is_small in
-    (sym (micro_text-cost_of w is_plain (omega arith)), low)
+    (sym (micro_text-cost_of w is_plain), low)
 
 -- what the tests of a claim's words choose
 chosen : (b : Bool) (x claim : Claim) → (if b then Some x else None) ≡ Some claim → (b ≡ true) × (x ≡ claim)

@@ -11,7 +11,7 @@ use Rattle.location_terms.specs.Box.{must_open, must_close}
 use Rattle.location_terms.specs.Bound.{Duals}
 use Rattle.location_terms.specs.Tree.{Node, Leaf, OnSite, OnLane}
 use Rattle.location_terms.specs.Certificate.{Certificate}
-use Rattle.fixed_cost.specs.Print.{micro_text}
+use Rattle.number_words.specs.Cost.{micro_text}
 use Rattle.number_words.specs.Line.{spaced}
 use Rattle.number_words.specs.Number.{number_text}
 

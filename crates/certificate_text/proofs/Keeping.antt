@@ -1,7 +1,8 @@
 -- What is kept of lines that are read, and the certificate that it comes to.
-use Rattle.std.proofs.Common.{◌≡◌, ℕ, ◌+◌, ◌≤◌, List, [], ◌∷◌, ◌++◌, length, refl, sym, ap, ◌∙◌, subst, arith, Option, None, Some, Ok, append_assoc, append-nil, length-append}
+use Rattle.std.proofs.Common.{◌≡◌, ℕ, ◌+◌, ◌≤◌, List, [], ◌∷◌, ◌++◌, length, refl, sym, ap, ◌∙◌, subst, arith, Option, None, Some, append_assoc, append-nil, length-append}
+use Rattle.std.specs.Prelude.{flat_map}
 use Rattle.location_terms.specs.declared.claim.Claim.{Claim}
-use Rattle.location_terms.specs.Instance.{Instance, IsValid, site_ids, customer_ids}
+use Rattle.location_terms.specs.Instance.{Instance, site_ids, customer_ids}
 use Rattle.location_terms.specs.Plan.{Plan}
 use Rattle.location_terms.specs.Box.{Path}
 use Rattle.location_terms.specs.declared.decision.Decision.TheVariants.{Opened, Closed, Yes, No}
@@ -14,16 +15,11 @@ use Rattle.branch_tree.specs.Begun.{Begun}
 use Rattle.branch_tree.specs.Preorder.{flat, tree_of-flat}
 use Rattle.branch_tree.specs.Walk.{IsWhole}
 use Rattle.branch_tree.proofs.Whole.{whole-flat}
-use Rattle.certificate_lines.specs.Text.{certificate_lines}
-use Rattle.certificate_lines.specs.Due.{Due, HeaderDue, NothingDue, Suits, Shown, NothingShown, PlanShown, SiteShown, LaneShown, LeafShown}
-use Rattle.certificate_lines.specs.Lines.{read_line}
-use Rattle.certificate_lines.specs.Follow.{told, follow_said, follow, HasText, plan_shown, nodes_told, told_by}
-use Rattle.certificate_lines.specs.Form.{due_of, IsSound}
-use Rattle.certificate_lines.proofs.ReadBackFollow.{after, followed_by, follow-append}
-use Rattle.certificate_lines.proofs.Spelled.{spelled}
+use Rattle.certificate_lines.specs.Due.{Shown, NothingShown, PlanShown, SiteShown, LaneShown, LeafShown}
+use Rattle.certificate_lines.specs.Follow.{told, HasText, plan_shown, nodes_told, told_by}
+use Rattle.certificate_lines.specs.Form.{IsSound}
 use Rattle.certificate_text.specs.declared.kept.Kept.{Kept}
-use Rattle.certificate_text.specs.declared.reading.Reading.{Reading}
-use Rattle.certificate_text.specs.Read.{nothing_kept, kept_with, kept_all, FitsOn, claim_done, IsReadOf, certificate_from}
+use Rattle.certificate_text.specs.Read.{nothing_kept, kept_with, kept_all, FitsOn, certificate_from}
 
 kept_all-append : (kept : Kept) (xs ys : List Shown) → kept_all kept (xs ++ ys) ≡ kept_all (kept_all kept xs) ys
 kept_all-append kept [] ys = refl
@@ -75,30 +71,31 @@ fits_on I nodes (LaneShown s c) sites customers sound = rw (sites, customers) so
 fits_on I nodes (LeafShown claim path d) sites customers sound =
     (sound.of_instance.sites ∙ sym (length-site_ids I) ∙ ap length (sym sites), sound.of_instance.customers ∙ sym (length-customer_ids I) ∙ ap length (sym customers), sound.in_limits)
 
-pub line_fits : (I : Instance) (reading : Reading) (past : List (List ℕ)) (shown : Shown) → IsReadOf I past reading → IsSound I shown → FitsOn reading.kept.nodes shown
-line_fits I reading past shown read sound =
-    fits_on I reading.kept.nodes shown
-    (ap (λ (k : Kept). k.nodes.sites) read.kept ∙ all_sites (nothing_kept I) read.shown)
-    (ap (λ (k : Kept). k.nodes.customers) read.kept ∙ all_customers (nothing_kept I) read.shown)
+-- the ids stay as they are, and a line brings one node at most
+pub shown_fits : (I : Instance) (kept : Kept) (seen : List Shown) (shown : Shown) → kept ≡ kept_all (nothing_kept I) seen → IsSound I shown → FitsOn kept.nodes shown
+shown_fits I kept seen shown is sound =
+    fits_on I kept.nodes shown
+    (ap (λ (k : Kept). k.nodes.sites) is ∙ all_sites (nothing_kept I) seen)
+    (ap (λ (k : Kept). k.nodes.customers) is ∙ all_customers (nothing_kept I) seen)
     sound
 
--- one line more
-pub read_more : (I : Instance) (past : List (List ℕ)) (reading next : Reading) (line : List ℕ) (shown : Shown) → IsReadOf I past reading → read_line I (due_of reading.due) line ≡ Ok (due_of next.due, shown)
-    → next.kept ≡ kept_with reading.kept shown → next.line ≡ reading.line + 1 → Suits I (due_of next.due) → IsReadOf I (past ++ line ∷ []) next
-read_more I past reading next line shown read says keeps counts suits = record {
-  shown = read.shown ++ told shown;
-  read = follow-append I HeaderDue past (line ∷ [])
-      ∙ ap (λ o. followed_by o (λ due. follow I due (line ∷ []))) read.read
-      ∙ ap (λ said. after read.shown (follow_said said (λ due. follow I due []))) says
-      ∙ ap (λ end. Some (due_of next.due, read.shown ++ end)) (append-nil (told shown));
-  kept = keeps
-      ∙ ap (λ k. kept_with k shown) read.kept
-      ∙ sym (kept_all-told (kept_all (nothing_kept I) read.shown) shown)
-      ∙ sym (kept_all-append (nothing_kept I) read.shown (told shown));
-  line = omega (arith, counts, read.line, length-append past (line ∷ []));
-  few = omega (arith, counts, read.few, kept_few reading.kept shown, ap (λ (k : Kept). length k.nodes.entries) keeps);
-  suits = suits;
-}
+all_few : (kept : Kept) (seen : List Shown) → length (kept_all kept seen).nodes.entries ≤ length kept.nodes.entries + length seen
+all_few kept [] = omega arith
+all_few kept (x ∷ xs) = omega (arith, all_few (kept_with kept x) xs, kept_few kept x)
+
+pub few_kept : (I : Instance) (kept : Kept) (seen : List Shown) → kept ≡ kept_all (nothing_kept I) seen → length kept.nodes.entries ≤ length seen
+few_kept I kept seen is = omega (arith, ap (λ (k : Kept). length k.nodes.entries) is, all_few (nothing_kept I) seen)
+
+pub kept_more : (I : Instance) (kept next : Kept) (seen : List Shown) (shown : Shown) → kept ≡ kept_all (nothing_kept I) seen → next ≡ kept_with kept shown → next ≡ kept_all (nothing_kept I) (seen ++ shown ∷ [])
+kept_more I kept next seen shown is keeps = keeps ∙ ap (λ k. kept_with k shown) is ∙ sym (kept_all-append (nothing_kept I) seen (shown ∷ []))
+
+-- what is kept is what the lines tell
+kept_told : (kept : Kept) (seen : List Shown) → kept_all kept (flat_map told seen) ≡ kept_all kept seen
+kept_told kept [] = refl
+kept_told kept (x ∷ xs) =
+    kept_all-append kept (told x) (flat_map told xs)
+    ∙ ap (λ k. kept_all k (flat_map told xs)) (kept_all-told kept x)
+    ∙ kept_told (kept_with kept x) xs
 
 -- with more nodes
 abbrev with_nodes : Kept → List Entry → Kept
@@ -156,25 +153,11 @@ from_whole I cert has =
 pub certificate_kept : (I : Instance) (cert : Certificate) → HasText I cert → certificate_from cert.claim (kept_all (nothing_kept I) (told_by cert)) ≡ cert
 certificate_kept I cert has = ap (certificate_from cert.claim) (kept_certificate I cert.claim cert.plan cert.tree.root) ∙ from_whole I cert has
 
-pub done_due : (due : Due) (claim : Claim) → claim_done due ≡ Some claim → due ≡ NothingDue claim
-done_due (NothingDue other) claim e = cc
-done_due due claim e = absurd (cc)
+-- lines that show what a certificate shows are kept as that
+pub kept_of : (I : Instance) (cert : Certificate) (seen : List Shown) (kept : Kept) → HasText I cert → kept ≡ kept_all (nothing_kept I) seen → flat_map told seen ≡ told_by cert → certificate_from cert.claim kept ≡ cert
+kept_of I cert seen kept has is shown = ap (certificate_from cert.claim) (is ∙ sym (kept_told (nothing_kept I) seen) ∙ ap (kept_all (nothing_kept I)) shown) ∙ certificate_kept I cert has
 
--- lines that are read to the end are those of the certificate that is kept
-pub record IsFinished (I : Instance) (past : List (List ℕ)) (claim : Claim) (kept : Kept) : Type 0 where
-  pub lines : past ≡ certificate_lines I (certificate_from claim kept)
-  pub has_text : HasText I (certificate_from claim kept)
-  pub whole : IsWhole (Some []) kept.nodes.entries
-
-pub finished : (I : Instance) (past : List (List ℕ)) (reading : Reading) (claim : Claim) → IsValid I → IsReadOf I past reading → claim_done (due_of reading.due) ≡ Some claim → IsFinished I past claim reading.kept
-finished I past reading claim valid read done =
-    let spells = spelled I past claim read.shown valid (read.read ∙ ap (λ due. Some (due, read.shown)) (done_due (due_of reading.due) claim done)) in
-    let cert = spells.0 in
-    let kept : reading.kept ≡ kept_all (nothing_kept I) (told_by cert) = read.kept ∙ ap (kept_all (nothing_kept I)) spells.3 in
-    let same : cert ≡ certificate_from claim reading.kept = sym (certificate_kept I cert spells.4) ∙ ap (λ c. certificate_from c (kept_all (nothing_kept I) (told_by cert))) spells.2 ∙ ap (certificate_from claim) (sym kept) in
-    let nodes : reading.kept.nodes.entries ≡ flat cert.tree.root = ap (λ (k : Kept). k.nodes.entries) (kept ∙ kept_certificate I cert.claim cert.plan cert.tree.root) in
-    record {
-      lines = spells.1 ∙ ap (certificate_lines I) same;
-      has_text = subst (HasText I) same spells.4;
-      whole = subst (IsWhole (Some [])) (sym nodes) (whole-flat cert.tree.root);
-    }
+pub kept_whole : (I : Instance) (cert : Certificate) (seen : List Shown) (kept : Kept) → kept ≡ kept_all (nothing_kept I) seen → flat_map told seen ≡ told_by cert → IsWhole (Some []) kept.nodes.entries
+kept_whole I cert seen kept is shown =
+    let all : kept ≡ whole_kept I cert.plan cert.tree.root = is ∙ sym (kept_told (nothing_kept I) seen) ∙ ap (kept_all (nothing_kept I)) shown ∙ kept_certificate I cert.claim cert.plan cert.tree.root in
+    subst (λ (k : Kept). IsWhole (Some []) k.nodes.entries) (sym all) (whole-flat cert.tree.root)

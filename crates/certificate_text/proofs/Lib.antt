@@ -1,10 +1,7 @@
 pub mod Keeping
-pub mod Parted
-pub mod Reached
-pub mod Exits
+pub mod Reading
 pub mod Rows
 pub mod Nodes
 pub mod Parts
-pub mod Alike
-pub mod Faultless
+pub mod OneText
 pub mod GivesBack

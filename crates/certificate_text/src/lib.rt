@@ -6,11 +6,10 @@ mod kept;
 mod laws;
 mod print;
 mod read;
-mod reading;
 mod write;
 
 pub use certificate::Certificate;
-pub use certificate_lines::{CertFault, CertKind, MAX_CERTIFICATE_BYTES};
+pub use certificate_reader::{CertFault, CertKind, MAX_CERTIFICATE_BYTES};
 pub use laws::one_text;
 pub use read::read_cert;
 pub use write::write_cert;

@@ -1,7 +1,7 @@
 //! The lines of a certificate, as they are printed.
 ghost use Rattle.std.specs.Prelude.{◌≡◌, ◌++◌, ◌∷◌, [], OnOk, codes, map, pos};
 ghost use Rattle.std.specs.Option.{option_copied};
-ghost use Rattle.fixed_cost.specs.Print.{micro_text};
+ghost use Rattle.number_words.specs.Cost.{micro_text};
 ghost use Rattle.number_words.specs.Line.{spaced};
 ghost use Rattle.number_words.specs.Number.{number_text};
 ghost use Rattle.certificate_lines.specs.Text.{is_status, ids_where, counts_line, header_words, sizes_line, status_lines, claim_line, plan_lines, leaf_lines, priced, text_of_lines};

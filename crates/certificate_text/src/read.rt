@@ -1,21 +1,22 @@
 //! A certificate read back from a file.
-ghost use Rattle.std.specs.Prelude.{◌≡◌, ℕ, ◌≤◌, length, IfOk, IsErrOf};
+ghost use Rattle.std.specs.Prelude.{◌≡◌, ℕ, ◌≤◌, [], length, IfOk, IsErrOf};
 ghost use Rattle.location_terms.specs.Certificate.{Certificate as Written};
 ghost use Rattle.shelf_port.specs.Files.{HasFile, Rose, NeverFalls};
-ghost use Rattle.shelf_lines.specs.Rest.{start_of, TellsFile};
+ghost use Rattle.shelf_lines.specs.Rest.{TellsFile};
 ghost use Rattle.certificate_lines.specs.declared.kind.CertKind.{CertKind as Kind};
 ghost use Rattle.certificate_lines.specs.Text.{certificate_text};
 ghost use Rattle.certificate_lines.specs.Follow.{HasText};
+ghost use Rattle.certificate_reader.specs.Behind.{IsBehind};
 ghost use Rattle.certificate_text.specs.Cert.{certificate_of};
 ghost use Rattle.certificate_text.specs.Form.{HasFault, PassesLimit};
 ghost use Rattle.certificate_text.specs.GivesBack.{GivesBack};
-ghost use Rattle.certificate_text.specs.Read.{unread_fault};
+ghost use Rattle.certificate_text.specs.Read.{Comes};
 
 use crate::Certificate;
-use crate::reading::Reading;
+use crate::kept::Kept;
 use certificate_lines::{CertFault, MAX_CERTIFICATE_BYTES};
+use certificate_reader::{CertReader, Seen};
 use instance_store::Instance;
-use shelf_lines::{LineFault, LineReader};
 use shelf_port::Shelf;
 use std::alloc::Global;
 
@@ -55,28 +56,21 @@ pub fn read_cert<H: Shelf>(
 {
     // An instance is valid, so that a text has one certificate.
     let _sites = inst.sites();
-    let mut reader = LineReader::new(alloc, MAX_CERTIFICATE_BYTES);
+    let mut reader = CertReader::new(alloc, MAX_CERTIFICATE_BYTES);
     read_lines(alloc, inst, &mut reader, shelf, name)
 }
 
-// The certificate of the lines that a new reader hands out.
+// The certificate of what a new reader comes to.
 pub(crate) fn read_lines<H: Shelf>(
     alloc: Global,
     inst: &Instance,
-    reader: &mut LineReader,
+    reader: &mut CertReader,
     shelf: &mut H,
     name: &str,
 ) -> Result<Certificate, CertFault>
-    requires start { reader.old ≡ start_of reader.old.limit }
-    requires within { reader.old.limit ≤ MAX_CERTIFICATE_BYTES }
-    ensures ok { IfOk result (λ cert. HasFile (H.files shelf.old) name.now
-        (λ bytes. bytes ≡ certificate_text inst.now (certificate_of cert))) }
-    ensures has_text { IfOk result (λ cert. HasText inst.now (certificate_of cert)) }
-    ensures fault { (kind : Kind) (line : ℕ) → result ≡ Err (CertFault.Text kind line) →
-        HasFile (H.files shelf.old) name.now
-        (λ bytes. HasFault reader.old.limit inst.now bytes kind line) }
-    ensures too_long { IsErrOf result CertFault.TooLong →
-        HasFile (H.files shelf.old) name.now (PassesLimit reader.old.limit inst.now) }
+    requires start { (limit : ℕ) × IsBehind (H.files shelf.old) name.now limit inst.now [] reader.old }
+    ensures comes { (limit : ℕ) → IsBehind (H.files shelf.old) name.now limit inst.now [] reader.old →
+        Comes (H.files shelf.old) name.now limit inst.now result }
     ensures failed { IsErrOf result CertFault.ReadFailed →
         Rose (H.read_faults shelf.old name.now) (H.read_faults shelf.new name.now) }
 
@@ -86,29 +80,17 @@ pub(crate) fn read_lines<H: Shelf>(
 {
     // An instance is valid, so that lines that are followed to their end are a certificate's text.
     let _sites = inst.sites();
-    let Ok(mut reading) = Reading::start(alloc, inst) else {
+    let Ok(mut kept) = Kept::on(alloc, inst) else {
         return Err(CertFault::NoMemory);
     };
     loop {
-        if let Some(claim) = reading.claim() {
-            match reader.peek(shelf, name) {
-                Ok(ahead) => return reading.finish(claim, ahead),
-                Err(fault) => return Err(unread(fault)),
+        match reader.next(alloc, inst, shelf, name)? {
+            Seen::Whole(claim) => return Ok(kept.finish(claim)),
+            Seen::Line(_, shown) => {
+                let Ok(()) = kept.keep(shown) else {
+                    return Err(CertFault::NoMemory);
+                };
             }
         }
-        match reader.next(shelf, name) {
-            Ok(next) => reading = reading.step(alloc, inst, next, reader.line())?,
-            Err(fault) => return Err(unread(fault)),
-        }
-    }
-}
-
-// What a refusal of one line of the file means.
-fn unread(fault: LineFault) -> CertFault
-    ensures { result ≡ unread_fault fault }
-{
-    match fault {
-        LineFault::Failed => CertFault::ReadFailed,
-        LineFault::NoMemory => CertFault::NoMemory,
     }
 }

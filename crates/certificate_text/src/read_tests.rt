@@ -3,9 +3,9 @@ ghost use Rattle.std.specs.Prelude.{◌<◌};
 use super::tests::{TEXT, example};
 use super::*;
 use crate::read::read_lines;
+use certificate_reader::CertReader;
 use instance_store::Instance;
 use location_terms::Claim;
-use shelf_lines::LineReader;
 use shelf_port::MemShelf;
 use std::alloc::Global;
 use std::test::Fail;
@@ -142,7 +142,7 @@ fn reads_within(alloc: Global, limit: u64, fault: Option<CertFault>) -> Result<b
 {
     let inst = example(alloc)?;
     let mut shelf = shelf_of(alloc, TEXT.as_bytes(), 65_536, 0)?;
-    let mut reader = LineReader::new(alloc, limit);
+    let mut reader = CertReader::new(alloc, limit);
     Ok(read_lines(alloc, &inst, &mut reader, &mut shelf, "a").err() == fault)
 }
 

@@ -35,8 +35,7 @@ use Rattle.certificate_lines.specs.declared.limits.TheConstants.{MAX_CERTIFICATE
 use Rattle.certificate_lines.specs.declared.fault.CertFault.TheVariants.{Text, TooLong}
 use Rattle.certificate_check.specs.declared.verdict.Verdict.{Verdict}
 use Rattle.certificate_check.specs.declared.verdict.Verdict.TheVariants.{Yes, No}
-use Rattle.certificate_check.specs.Verdict.{Answer, IsAnswer}
-use Rattle.certificate_check.specs.Step.{IsUnread}
+use Rattle.certificate_check.specs.Verdict.{Answer, IsAnswer, IsUnread}
 use Rattle.dualoc_cli.specs.declared.words.FileForm.{FileForm}
 use Rattle.dualoc_cli.specs.declared.words.FileForm.TheVariants.{Cap, Uncap, Ufl, Pmed}
 use Rattle.fixed_cost.specs.declared.limits.TheConstants.{MAX_INSTANCE_BYTES}

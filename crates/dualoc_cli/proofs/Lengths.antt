@@ -1,15 +1,14 @@
 -- How long the text of a certificate is.
 use Rattle.std.proofs.Common.{◌≡◌, ℕ, zero, suc, ◌+◌, ◌*◌, ◌/◌, ◌%◌, ◌^◌, ◌<◌, ◌≤◌, ◌==◌, Bool, true, false, List, [], ◌∷◌, ◌++◌, map, length, length-append, Option, None, Some, refl, sym, ap, ◌∙◌, inl, inr, arith}
-use Rattle.std.specs.Prelude.{ℤ, pos, negsuc, All, unsigned_abs, decimal, codes, filter, IsNone, if◌then◌else◌}
+use Rattle.std.specs.Prelude.{ℤ, pos, negsuc, All, unsigned_abs, codes, filter, IsNone, if◌then◌else◌}
 use Rattle.std.specs.Int.Digits.{digits_of}
 use Rattle.std.proofs.lemmas.Bool.{cases_Bool}
-use Rattle.std.proofs.lemmas.Fmt.{length-decimal-le}
 use Rattle.std.proofs.lemmas.Int.Digits.{length-digits_of-le}
 use Rattle.std.proofs.lemmas.List.{length-map}
 use Rattle.std.proofs.lemmas.List.Concat.{flat_map-cons}
 use Rattle.std.proofs.lemmas.List.Elements.{All-nil, All-cons, All-head, All-tail, All-same, All-weaker, All-map, All-contains}
 use Rattle.std.proofs.lemmas.Grind.{flat_map-append}
-use Rattle.fixed_cost.specs.Print.{micro_text, decimals_text}
+use Rattle.number_words.specs.Cost.{micro_text, decimals_text}
 use Rattle.number_words.specs.Line.{spaced}
 use Rattle.number_words.specs.Number.{number_text, digits_text}
 use Rattle.location_terms.specs.declared.status.SiteStatus.{SiteStatus}
@@ -67,7 +66,7 @@ cost_short : (n : ℕ) → n ≤ MAX_COST → length (micro_text n) ≤ 20
 unfolding micro_text
 cost_short n small =
     let seven : length (decimals_text (n % 1000000)) ≡ 7 = refl in
-    omega (arith, seven, length-append (decimal (n / 1000000)) (decimals_text (n % 1000000)), length-decimal-le 13 (n / 1000000) (omega arith) (omega arith) (omega arith))
+    omega (arith, seven, length-append (digits_text (n / 1000000)) (decimals_text (n % 1000000)), length-number_text 13 (n / 1000000) (omega arith) (omega arith))
 
 -- words, each behind a space
 abbrev gaps : List (List ℕ) → ℕ

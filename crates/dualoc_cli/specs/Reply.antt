@@ -4,7 +4,7 @@ use Rattle.location_terms.specs.declared.claim.Claim.{Claim}
 use Rattle.location_terms.specs.declared.claim.Claim.TheVariants as claims
 use Rattle.location_terms.specs.declared.claim.Claim.TheVariants.{Optimal}
 use Rattle.fixed_cost.specs.Faults.{fault_text}
-use Rattle.fixed_cost.specs.Print.{micro_text}
+use Rattle.number_words.specs.Cost.{micro_text}
 use Rattle.number_words.specs.Number.{number_text}
 use Rattle.plan_meaning.specs.PlanFault.{fault_name}
 use Rattle.report.specs.PlanText.{claim_line, high_text, plan_text_of}

@@ -1,7 +1,7 @@
 //! The texts of replies.
 ghost use Rattle.std.specs.Prelude.{◌≡◌, ◌++◌, IfOk, OnOk};
 ghost use Rattle.number_words.specs.Number.{number_text};
-ghost use Rattle.fixed_cost.specs.Print.{micro_text};
+ghost use Rattle.number_words.specs.Cost.{micro_text};
 ghost use Rattle.report.specs.PlanText.{high_text};
 ghost use Rattle.dualoc_cli.specs.Reply.{text_of, result_line, no_text};
 ghost use Rattle.dualoc_cli.specs.Step.{IsPrintable};

@@ -1,55 +1,55 @@
-use Rattle.std.proofs.Common.{◌≡◌, ◌+◌, ◌≤◌, rules, sym, ap, subst, ◌∙◌, inl, inr, arith, Err}
-use Rattle.std.specs.Prelude.{None}
-use Rattle.shelf_lines.specs.Rest.{LineState, unread}
-use Rattle.certificate_lines.specs.Form.{due_of}
-use Rattle.certificate_check.specs.Step.{claim_behind}
-use Rattle.certificate_check.proofs.Passed.{passed_none}
-use Rattle.certificate_check.proofs.Exits.{closes, misses, stops, stops_at, goes_on, line_found}
+use Rattle.std.proofs.Common.{◌≡◌, ◌+◌, ◌≤◌, rules, sym, ◌∙◌, arith, Err}
+use Rattle.certificate_check.proofs.Answers.{stood_none, answers_yes, answers_fault, answers_no, stood_more}
 use Rattle.certificate_check.proofs.checker.check_lines.Goals as goal
 
+pub next-requires : goal.next-requires
+next-requires g c = record { ready = (c.loop-bounds.invariant.stood c.requires.start.0 c.requires.start.1).behind.ready }
+
+pub returns-in-Whole-clause-answer : goal.returns-in-Whole-clause-answer
+returns-in-Whole-clause-answer g c = λ limit start.
+    answers_yes _ _ limit c.args.inst.now _ c.loop-bounds.reader c.next.new.self c.loop-bounds.invariant.unchanged (c.loop-bounds.invariant.stood limit start) c.in-Whole.claim (rw c.in-Whole.is at c.in_ok-claim.ensures.step)
+
+pub returns-in_err-claim-clause-answer : goal.returns-in_err-claim-clause-answer
+returns-in_err-claim-clause-answer g c = λ limit start.
+    let same : c.from_residual.result ≡ Err c.in_err-claim.field-0.0 = search rules in
+    rw same (answers_fault _ _ limit c.args.inst.now _ c.loop-bounds.reader c.next.new.self c.loop-bounds.invariant.unchanged (c.loop-bounds.invariant.stood limit start) c.in_err-claim.field-0.0 c.in_err-claim.ensures.step)
+
 pub returns-in-Some-clause-answer : goal.returns-in-Some-clause-answer
-returns-in-Some-clause-answer g c =
-    closes _ _ _ _ _ _ _ _ _ _ _ c.loop-claim.invariant.unchanged c.loop-claim.invariant.same_limit (sym c.in-Some.is ∙ c.claim_behind.ensures) c.loop-claim.invariant.passed c.loop-claim.invariant.there c.close.ensures.answer c.close.ensures.kind
+returns-in-Some-clause-answer g c = λ limit start.
+    answers_no _ _ limit c.args.inst.now _ c.loop-bounds.reader c.next.new.self c.loop-bounds.invariant.unchanged (c.loop-bounds.invariant.stood limit start) c.in-Line.line c.line_of-line.result c.in-Line.shown c.in-Some.why (rw c.in-Line.is at c.in_ok-claim.ensures.step) (rw c.in-Line.is at c.in_ok-claim.ensures.sound).0 c.in-Some.ensures.exact c.line_of-line.ensures
 
-pub returns-in_err-hand_out-clause-answer : goal.returns-in_err-hand_out-clause-answer
-returns-in_err-hand_out-clause-answer g c =
-    let is_open : claim_behind (due_of c.loop-claim.form) ≡ None = search rules in
-    let same : c.from_residual.result ≡ Err c.in_err-hand_out.field-0.0 = search rules in
-    rw same (misses _ _ _ _ _ _ _ _ _ _ c.loop-claim.invariant.unchanged c.loop-claim.invariant.same_limit is_open c.loop-claim.invariant.passed c.in_err-hand_out.ensures.none c.in_err-hand_out.ensures.kind)
-
-pub returns-in_err-due-clause-answer : goal.returns-in_err-due-clause-answer
-returns-in_err-due-clause-answer g c =
-    let there = line_found _ _ _ _ c.loop-claim.reader c.loop-claim.invariant.unchanged c.loop-claim.invariant.there c.in_ok-hand_out.ensures.there in
-    let same : c.from_residual-in_err-due.result ≡ Err c.in_err-due.field-0.0 = search rules in
-    rw same (stops_at _ _ _ _ _ _ _ _ _ _ _ c.loop-claim.invariant.unchanged c.line.ensures c.in_ok-hand_out.ensures.is_line c.in_ok-hand_out.ensures.rest c.in_ok-hand_out.ensures.unread c.loop-claim.invariant.passed there c.in_err-due.ensures.step)
-
-pub returns-in-Says-clause-answer : goal.returns-in-Says-clause-answer
-returns-in-Says-clause-answer g c =
-    let there = line_found _ _ _ _ c.loop-claim.reader c.loop-claim.invariant.unchanged c.loop-claim.invariant.there c.in_ok-hand_out.ensures.there in
-    inr (stops _ _ _ _ _ _ _ _ _ _ _ c.loop-claim.invariant.unchanged c.line.ensures c.in_ok-hand_out.ensures.is_line c.in_ok-hand_out.ensures.rest c.in_ok-hand_out.ensures.unread c.loop-claim.invariant.passed there (rw c.in-Says.is at c.in_ok-due.ensures.step))
-
-pub loop-claim-preserved : goal.loop-claim-preserved
-loop-claim-preserved g c = record {
-  passed = goes_on _ _ _ _ _ _ _ _ _ _ _ c.loop-claim.invariant.unchanged c.line.ensures c.in_ok-hand_out.ensures.is_line c.in_ok-hand_out.ensures.rest c.in_ok-hand_out.ensures.unread c.loop-claim.invariant.passed (rw c.in-On.is at c.in_ok-due.ensures.step);
-  bounds = c.in_ok-due.ensures.kept ∙ c.loop-claim.invariant.bounds;
-  ready = rw c.in-On.is at c.in_ok-due.ensures.ready;
-  there = inr (line_found _ _ _ _ c.loop-claim.reader c.loop-claim.invariant.unchanged c.loop-claim.invariant.there c.in_ok-hand_out.ensures.there);
-  counted = omega (arith, c.in_ok-hand_out.ensures.unread, c.loop-claim.invariant.counted);
-  same_limit = c.in_ok-hand_out.ensures.same_limit ∙ c.loop-claim.invariant.same_limit;
-  unchanged = c.in_ok-hand_out.ensures.unchanged ∙ c.loop-claim.invariant.unchanged;
-  reads = λ name. omega (arith, c.in_ok-hand_out.ensures.reads name, c.loop-claim.invariant.reads name);
-  writes = λ name. omega (arith, c.in_ok-hand_out.ensures.writes name, c.loop-claim.invariant.writes name);
-}
-
-pub loop-claim-init : goal.loop-claim-init
-loop-claim-init g c = record {
-  passed = passed_none c.args.inst.now _ c.args.name.now c.args.reader.now.limit c.args.reader.now c.requires.start;
+pub loop-bounds-init : goal.loop-bounds-init
+loop-bounds-init g c = record {
+  stood = λ limit start. stood_none _ _ limit c.args.inst.now c.args.reader.now start;
   bounds = c.of-bounds.ensures;
-  ready = search rules;
-  there = inl (search rules, ap (λ (r : LineState). r.ahead) c.requires.start);
-  counted = subst (λ (r : LineState). 1 + unread r ≤ r.limit + 1) (sym c.requires.start) (omega arith);
-  same_limit = search rules;
   unchanged = search rules;
   reads = λ name. omega arith;
   writes = λ name. omega arith;
+}
+
+pub loop-bounds-preserved-in_default : goal.loop-bounds-preserved-in_default
+loop-bounds-preserved-in_default g c = record {
+  stood = λ limit start. stood_more _ _ limit c.args.inst.now _ c.loop-bounds.reader c.next.new.self c.loop-bounds.invariant.unchanged (c.loop-bounds.invariant.stood limit start) c.in-Line.line c.in-Line.shown (rw c.in-Line.is at c.in_ok-claim.ensures.step) c.in_default.ensures.exact;
+  bounds = c.against.ensures.kept ∙ c.loop-bounds.invariant.bounds;
+  unchanged = c.in_ok-claim.ensures.unchanged ∙ c.loop-bounds.invariant.unchanged;
+  reads = λ name. omega (arith, c.in_ok-claim.ensures.reads name, c.loop-bounds.invariant.reads name);
+  writes = λ name. omega (arith, c.in_ok-claim.ensures.writes name, c.loop-bounds.invariant.writes name);
+}
+
+pub loop-bounds-preserved-in_default-2 : goal.loop-bounds-preserved-in_default-2
+loop-bounds-preserved-in_default-2 g c = record {
+  stood = λ limit start. stood_more _ _ limit c.args.inst.now _ c.loop-bounds.reader c.next.new.self c.loop-bounds.invariant.unchanged (c.loop-bounds.invariant.stood limit start) c.in-Line.line c.in-Line.shown (rw c.in-Line.is at c.in_ok-claim.ensures.step) c.in_default.ensures.exact;
+  bounds = c.against.ensures.kept ∙ c.loop-bounds.invariant.bounds;
+  unchanged = c.in_ok-claim.ensures.unchanged ∙ c.loop-bounds.invariant.unchanged;
+  reads = λ name. omega (arith, c.in_ok-claim.ensures.reads name, c.loop-bounds.invariant.reads name);
+  writes = λ name. omega (arith, c.in_ok-claim.ensures.writes name, c.loop-bounds.invariant.writes name);
+}
+
+pub loop-bounds-preserved : goal.loop-bounds-preserved
+loop-bounds-preserved g c = record {
+  stood = λ limit start. stood_more _ _ limit c.args.inst.now _ c.loop-bounds.reader c.next.new.self c.loop-bounds.invariant.unchanged (c.loop-bounds.invariant.stood limit start) c.in-Line.line c.in-Line.shown (rw c.in-Line.is at c.in_ok-claim.ensures.step) c.in_default.ensures.exact;
+  bounds = c.against.ensures.kept ∙ c.loop-bounds.invariant.bounds;
+  unchanged = c.in_ok-claim.ensures.unchanged ∙ c.loop-bounds.invariant.unchanged;
+  reads = λ name. omega (arith, c.in_ok-claim.ensures.reads name, c.loop-bounds.invariant.reads name);
+  writes = λ name. omega (arith, c.in_ok-claim.ensures.writes name, c.loop-bounds.invariant.writes name);
 }

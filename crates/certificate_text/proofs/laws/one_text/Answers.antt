@@ -1,5 +1,4 @@
-use Rattle.certificate_text.proofs.Alike.{alike}
-use Rattle.certificate_text.proofs.Faultless.{faultless}
+use Rattle.certificate_text.proofs.OneText.{alike, faultless}
 use Rattle.certificate_text.proofs.laws.one_text.Goals as goal
 
 pub returns-clause-one : goal.returns-clause-one

@@ -1,0 +1,4 @@
+pub mod Exits
+pub mod Meaning
+pub mod Passing
+pub mod Transcripts
