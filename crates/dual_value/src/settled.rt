@@ -3,12 +3,12 @@ ghost use Rattle.std.specs.Prelude.{◌≡◌, ℕ, ◌<◌, ◌&&◌, not, fals
 ghost use Rattle.std.specs.Bool.{OnFalse};
 ghost use Rattle.std.specs.List.{list_any};
 ghost use Rattle.location_terms.specs.Instance.{IsValid, site_at, customer_at};
-ghost use Rattle.location_terms.specs.Box.{closes_site, opens_site, bars_lane, must_open, must_close, is_closed, is_called_for, is_torn, is_allowed, holds_demand};
+ghost use Rattle.location_terms.specs.Box.{closes_site, opens_site, bars_lane, is_closed, is_called_for, is_torn, is_allowed, holds_demand};
 ghost use Rattle.dual_value.specs.SiteState.{IsState, LeavesWhole};
 ghost use Rattle.dual_value.specs.Lanes.{named_site};
 
 use crate::Path;
-use instance_store::{CustId, Instance, SiteId, SiteStatus};
+use instance_store::{CustId, Instance, SiteId};
 use location_terms::Decision;
 
 /// What a path and the status of a site settle of it.
@@ -119,32 +119,14 @@ pub(crate) fn is_closed(inst: &Instance, path: &Path, site: usize) -> bool
     requires { site < length inst.now.sites }
     ensures { result ≡ is_closed path.now (site_at inst.now site) }
 {
-    must_close(inst.status(site)) || has_closed(path, inst.site_id(site))
+    inst.status(site).must_close() || has_closed(path, inst.site_id(site))
 }
 
 fn is_called_for(inst: &Instance, path: &Path, site: usize) -> bool
     requires { site < length inst.now.sites }
     ensures { result ≡ is_called_for path.now (site_at inst.now site) }
 {
-    must_open(inst.status(site)) || has_opened(path, inst.site_id(site))
-}
-
-fn must_close(status: SiteStatus) -> bool
-    ensures { result ≡ must_close status }
-{
-    match status {
-        SiteStatus::MustClose => true,
-        SiteStatus::Free | SiteStatus::MustOpen => false,
-    }
-}
-
-fn must_open(status: SiteStatus) -> bool
-    ensures { result ≡ must_open status }
-{
-    match status {
-        SiteStatus::MustOpen => true,
-        SiteStatus::Free | SiteStatus::MustClose => false,
-    }
+    inst.status(site).must_open() || has_opened(path, inst.site_id(site))
 }
 
 fn has_closed(path: &Path, site: SiteId) -> bool

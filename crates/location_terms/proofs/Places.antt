@@ -1,6 +1,8 @@
 -- What an instance has at an id is what it has at the id's place.
-use Rattle.std.proofs.Common.{◌≡◌, ℕ, ◌<◌, length, Option, option_map, unwrap_or, slice_index, ap}
-use Rattle.std.proofs.lemmas.List.{length-map, get_or-map}
+use Rattle.std.proofs.Common.{◌≡◌, ℕ, ◌+◌, ◌<◌, List, [], ◌∷◌, ◌++◌, length, Option, option_map, unwrap_or, slice_index, sym, ap, ◌∙◌, arith}
+use Rattle.std.specs.List.{range_with_len}
+use Rattle.std.proofs.lemmas.List.{length-map, get_or-map, map-id}
+use Rattle.std.proofs.lemmas.List.FromFn.{map-range_with_len_more}
 use Rattle.std.specs.List.Sorted.{IsStrictlyIncreasing}
 use Rattle.location_terms.proofs.Rising.{found_by_key}
 use Rattle.location_terms.specs.Instance.{Instance, Site, Customer, site_ids, customer_ids, site_at, customer_at, fixed_of, demand_of}
@@ -24,3 +26,10 @@ fixed_of-site_at I i rise within = ap (λ (o : Option Site). unwrap_or (option_m
 -- what a customer demands, by its id and by its place
 pub demand_of-customer_at : (I : Instance) (j : ℕ) → IsStrictlyIncreasing (customer_ids I) → j < length I.customers → demand_of I (customer_at I j).id ≡ (customer_at I j).demand
 demand_of-customer_at I j rise within = ap (λ (o : Option Customer). unwrap_or (option_map (λ x. x.demand) o) 0) (found_by_key (λ c. c.id) I.customers _ rise j within)
+
+-- one place more
+pub places_more : (n : ℕ) → range_with_len 0 (n + 1) ≡ range_with_len 0 n ++ n ∷ []
+places_more n =
+    sym (map-id (range_with_len 0 (n + 1)))
+    ∙ map-range_with_len_more (λ i. i) 0 n n (omega arith)
+    ∙ ap (λ (places : List ℕ). places ++ n ∷ []) (map-id (range_with_len 0 n))

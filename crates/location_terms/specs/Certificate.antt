@@ -11,6 +11,18 @@ pub record Certificate : Type 0 where
   pub plan : Option Plan
   pub tree : Tree
 
+-- what a plan of the claim is to cost, where the claim has a plan
+abbrev pub cost_claimed : Claim → Option ℕ
+cost_claimed (Optimal cost) = Some cost
+cost_claimed Infeasible = None
+cost_claimed (Bracket low high) = high
+
+-- the cost against which each leaf is to close, where the claim speaks of a cost
+abbrev pub target_of : Claim → Option ℕ
+target_of (Optimal cost) = Some cost
+target_of Infeasible = None
+target_of (Bracket low high) = Some low
+
 -- the plan is feasible and costs this
 abbrev pub Costs : Instance → Option Plan → ℕ → Type 0
 Costs I plan cost = IsSomeAnd plan (λ P. IsFeasible I P × (cost_of I P ≡ cost))

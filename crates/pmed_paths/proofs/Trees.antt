@@ -1,15 +1,15 @@
 -- A tree of edges, as a map.
-use Rattle.std.proofs.Common.{◌≡◌, ℕ, ◌<◌, ◌≤◌, ◌==◌, min, max, not, Bool, true, false, cond, List, [], ◌∷◌, ◌++◌, map, filter, reverse, All, Contains, Option, None, Some, unwrap_or, IfSome, refl, sym, ap, subst, ◌∙◌, arith, BTreeMap, Ordering, Less, Equal, Greater}
+use Rattle.std.proofs.Common.{◌≡◌, ℕ, ◌<◌, ◌≤◌, ◌==◌, min, max, not, Bool, true, false, cond, List, [], ◌∷◌, ◌++◌, map, filter, reverse, All, Contains, Option, None, Some, unwrap_or, IfSome, refl, sym, ap, subst, ◌∙◌, arith, BTreeMap}
 use Rattle.std.proofs.lemmas.Bool.{eqb-false}
 use Rattle.std.proofs.lemmas.List.{reverse-append}
 use Rattle.std.proofs.lemmas.Map.Views.{Contains-from_lookup}
 use Rattle.std.specs.Cmp.{eq_by_cmp_equiv}
 use Rattle.std.specs.Map.{lookup}
 use Rattle.std.specs.BTreeMap as tree
-use Rattle.std.specs.Ordering.{is_eq, eq_by_cmp}
+use Rattle.std.specs.Ordering.{eq_by_cmp}
 use Rattle.std.specs.FinMap.{get, find, insert, from_entries, get-empty, get-from_entries, get-insert, same_map}
 use Rattle.location_terms.specs.Instance.{pair_cmp}
-use Rattle.location_terms.proofs.Table.{pair_cmp-exact, pair_cmp-total}
+use Rattle.location_terms.proofs.Table.{pair_cmp-exact, pair_cmp-total, tied}
 use Rattle.pmed_paths.specs.Network.{Edges, pair, AreEdges, IsLine}
 use Rattle.pmed_paths.specs.Pmed.{is_proper, without_order, edges_of}
 use Rattle.pmed_paths.specs.Stored.{edges_in, with_edge}
@@ -24,14 +24,9 @@ lookup-find q (e ∷ es) = ap (cond (eq_by_cmp pair_cmp q e.0) (Some e.1)) (look
 pub get-edges_in : (t : BTreeMap (ℕ × ℕ) ℕ) (q : ℕ × ℕ) → get (edges_in t) q ≡ tree.get pair_cmp t q
 get-edges_in t q = get-from_entries pair_cmp-total t.entries q ∙ lookup-find q t.entries
 
-same_pair : (o : Ordering) → is_eq o ≡ true → o ≡ Equal
-same_pair Less e = cc
-same_pair Equal e = refl
-same_pair Greater e = cc
-
 -- each edge of the map is an entry of the tree
 pub entry-of : (t : BTreeMap (ℕ × ℕ) ℕ) (q : ℕ × ℕ) (cost : ℕ) → get (edges_in t) q ≡ Some cost → Contains t.entries (q, cost)
-entry-of t q cost e = Contains-from_lookup {eq = eq_by_cmp pair_cmp} (λ x y same. pair_cmp-exact x y (same_pair (pair_cmp x y) same)) q cost t.entries (sym (get-edges_in t q) ∙ e)
+entry-of t q cost e = Contains-from_lookup {eq = eq_by_cmp pair_cmp} (λ x y same. pair_cmp-exact x y (tied (pair_cmp x y) same)) q cost t.entries (sym (get-edges_in t q) ∙ e)
 
 -- each entry is an edge of the map
 pub entries-found : (t : BTreeMap (ℕ × ℕ) ℕ) → All (λ e. tree.get pair_cmp t e.0 ≡ Some e.1) t.entries → All (λ e. get (edges_in t) e.0 ≡ Some e.1) t.entries
@@ -95,7 +90,7 @@ with_edge-within last edges a b cost within line = by (a == b) refl
     fresh : (a == b) ≡ false → (q : ℕ × ℕ) (t : Bool) → eq_by_cmp pair_cmp q (pair a b) ≡ t → (x : ℕ) → cond t (Some cost) (get edges q) ≡ Some x → IsJoin last q x
     fresh apart q false other x e = joins-of last edges within q x e
     fresh apart q true same x e =
-        let here : q ≡ pair a b = pair_cmp-exact q (pair a b) (same_pair (pair_cmp q (pair a b)) same) in
+        let here : q ≡ pair a b = pair_cmp-exact q (pair a b) (tied (pair_cmp q (pair a b)) same) in
         let value : cost ≡ x = some-same cost x e in
         let differ : a ≡ b → ⊥ = eqb-false a b apart in
         subst (λ p. IsJoin last p x) (sym here) (record { first = omega (arith, line.first, line.second); rising = omega (arith, differ); known = omega (arith, line.first_known, line.second_known); small = omega (arith, line.small, value) })

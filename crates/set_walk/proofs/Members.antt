@@ -7,6 +7,7 @@ use Rattle.std.proofs.lemmas.Bool.{cases_eq, eq-eqb, ne_eqb}
 use Rattle.std.proofs.lemmas.Nat.Bits.{bit_at-suc, bit_at_lowest}
 use Rattle.std.proofs.lemmas.List.Elements.{All-nil, All-cons, All-head, All-tail, All-contains}
 use Rattle.std.proofs.lemmas.List.Kept.{AllPairs-cons}
+use Rattle.std.proofs.lemmas.Map.Made.{Contains-tail}
 use Rattle.set_walk.specs.Set.{members}
 
 -- each is below all later ones
@@ -107,11 +108,6 @@ without_first s ss ids rest =
       below = let few = rest.below in omega (arith, pow-suc 2 (length ss));
       is = let half : (rest.set * 2) / 2 ≡ rest.set = omega arith in members-no (rest.set * 2) s ss (λ odd. omega arith) ∙ ap (λ k. members k ss) half ∙ rest.is;
     }
-
--- an id of a list that is not its first stands after it
-Contains-tail : (s : ℕ) (ss : List ℕ) (x : ℕ) → (s ≡ x → ⊥) → Contains (s ∷ ss) x → Contains ss x
-Contains-tail s ss x other (zero, within, is) = absurd (other is)
-Contains-tail s ss x other (suc k, within, is) = (k, omega arith, is)
 
 known_after : (s : ℕ) (ss xs : List ℕ) → All (λ x. s < x) xs → All (Contains (s ∷ ss)) xs → All (Contains ss) xs
 known_after s ss xs above known k d h = Contains-tail s ss (get_or xs k d) (λ e. let over = above k d h in omega arith) (known k d h)

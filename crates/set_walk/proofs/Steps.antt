@@ -158,6 +158,3 @@ sets_are n sites same few =
 pub some_where_holds : {T : Type 0} (o : Option T) (P : Type 0) (v : T) → SomeIff o P v → P → IsSome o
 some_where_holds None P v h p = absurd (h p)
 some_where_holds (Some x) P v h p = refl
-
-pub value_where_holds : {T : Type 0} (o : Option T) (P : Type 0) (v x : T) → SomeIff o P v → o ≡ Some x → x ≡ v
-value_where_holds o P v x h is = (let at : SomeIff (Some x) P v = subst (λ q. SomeIff q P v) is h in at).1

@@ -7,7 +7,7 @@ use Rattle.fixed_cost.proofs.ReadFacts.{bind-ok, done-same, finished-same}
 use Rattle.instance_store.proofs.NumberedLists.{valid-by_site}
 use Rattle.table_words.specs.Tables.{sizes_at}
 use Rattle.table_words.proofs.TableFacts.{sizes_give}
-use Rattle.ufllib_read.specs.Ufl.{head_at, site_at, ufl_instance, ufl_at, ufl_meaning}
+use Rattle.ufllib_read.specs.Ufl.{head_at, site_lanes_at, ufl_instance, ufl_at, ufl_meaning}
 use Rattle.ufllib_read.proofs.ReadRows.{are_rows}
 
 -- the numbers in a head are within the limits
@@ -25,7 +25,7 @@ valid-at r I e =
     let head = bind-ok (head_at r) _ I e in
     let m = head.0.0.0 in
     let n = head.0.0.1 in
-    let rows = bind-ok (many_at (site_at n) 1 m head.0.1) _ I head.2 in
+    let rows = bind-ok (many_at (site_lanes_at n) 1 m head.0.1) _ I head.2 in
     let are = are_rows m n head.0.1 rows.0.0 rows.0.1 rows.1 (head_gives r m n head.0.1 head.1) in
     subst IsValid (finished-same (ufl_instance n rows.0.0) I rows.0.1 rows.2) (valid-by_site rows.0.0 (replicate n 0) are)
 

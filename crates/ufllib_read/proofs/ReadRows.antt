@@ -12,7 +12,7 @@ use Rattle.instance_store.specs.Small.{IsSmall}
 use Rattle.instance_store.specs.Numbered.{IsRow, AreSiteRows}
 use Rattle.table_words.specs.Tables.{lanes_at}
 use Rattle.table_words.proofs.TableFacts.{lanes_give}
-use Rattle.ufllib_read.specs.Ufl.{site_at}
+use Rattle.ufllib_read.specs.Ufl.{site_lanes_at}
 
 -- what is known of a facility where there are n cities
 record IsFacility (n : ℕ) (s : SiteLanes) : Type 0 where
@@ -21,11 +21,11 @@ record IsFacility (n : ℕ) (s : SiteLanes) : Type 0 where
   pub row : IsRow n s.lanes
   pub there : All IsSome s.lanes
 
-site_gives : (n : ℕ) → AlwaysGives (λ (_ : ℕ). IsFacility n) (site_at n)
-unfolding site_at
+site_gives : (n : ℕ) → AlwaysGives (λ (_ : ℕ). IsFacility n) (site_lanes_at n)
+unfolding site_lanes_at
 site_gives n = record { gives = by }
   where
-    by : (k : ℕ) (r : Rest) (s : SiteLanes) (after : Rest) → site_at n k r ≡ Ok (s, after) → IsFacility n s
+    by : (k : ℕ) (r : Rest) (s : SiteLanes) (after : Rest) → site_lanes_at n k r ≡ Ok (s, after) → IsFacility n s
     by k r s after e =
         let number = bind-ok (size_at BadIndex _ r) _ (s, after) e in
         let fixed = bind-ok (amount_at number.0.1) _ (s, after) number.2 in
@@ -36,9 +36,9 @@ site_gives n = record { gives = by }
         subst (IsFacility n) same (record { fixed = amount_at-small number.0.1 fixed.0.0 fixed.0.1 fixed.1; cap = refl; row = known.0; there = known.1 })
 
 -- the rows of m facilities where there are n cities
-module _ (m n : ℕ) (r : Rest) (sites : List SiteLanes) (after : Rest) (body : many_at (site_at n) 1 m r ≡ Ok (sites, after)) where
+module _ (m n : ℕ) (r : Rest) (sites : List SiteLanes) (after : Rest) (body : many_at (site_lanes_at n) 1 m r ≡ Ok (sites, after)) where
   facilities : (length sites ≡ m) × All (IsFacility n) sites
-  facilities = many_at-each (IsFacility n) (site_at n) (site_gives n) m 1 r sites after body
+  facilities = many_at-each (IsFacility n) (site_lanes_at n) (site_gives n) m 1 r sites after body
 
   pub are_rows : AreSizes m n → AreSiteRows sites (replicate n 0)
   are_rows sizes =

@@ -8,9 +8,9 @@ use Rattle.fixed_cost.specs.declared.fault.FormFault.TheVariants.{NoMemory}
 use Rattle.fixed_cost.specs.Reading.{Rest, many_at, finished, FailsAs, Means}
 use Rattle.fixed_cost.proofs.ReadFacts.{finished-err, finished-ok}
 use Rattle.instance_store.specs.declared.numbered.SiteLanes.{SiteLanes}
-use Rattle.ufllib_read.specs.Ufl.{head_at, site_at, ufl_instance, ufl_at}
+use Rattle.ufllib_read.specs.Ufl.{head_at, site_lanes_at, ufl_instance, ufl_at}
 
-module _ (r : Rest) (m n : ℕ) (behind_head : Rest) (sites : List SiteLanes) (behind_rows : Rest) (head : head_at r ≡ Ok ((m, n), behind_head)) (body : many_at (site_at n) 1 m behind_head ≡ Ok (sites, behind_rows)) where
+module _ (r : Rest) (m n : ℕ) (behind_head : Rest) (sites : List SiteLanes) (behind_rows : Rest) (head : head_at r ≡ Ok ((m, n), behind_head)) (body : many_at (site_lanes_at n) 1 m behind_head ≡ Ok (sites, behind_rows)) where
   to_end : ufl_at r ≡ finished (ufl_instance n sites) behind_rows
   unfolding ufl_at
   to_end = rw (head, body) refl

@@ -17,8 +17,8 @@ head_at r = do
   Ok (sizes.0, zero.1)
 
 -- facility k as a site: its number, its opening cost, and its connection cost to each of n cities
-unfoldable pub site_at : ℕ → ℕ → Rest → Result (SiteLanes × Rest) FileFault
-site_at n k r = do
+unfoldable pub site_lanes_at : ℕ → ℕ → Rest → Result (SiteLanes × Rest) FileFault
+site_lanes_at n k r = do
   number ← size_at BadIndex (λ x. x == k) r
   fixed ← amount_at number.1
   lanes ← lanes_at n fixed.1
@@ -32,7 +32,7 @@ ufl_instance n sites = numbered_by_site sites (replicate n 0)
 unfoldable pub ufl_at : Rest → Result Instance FileFault
 ufl_at r = do
   sizes ← head_at r
-  sites ← many_at (site_at sizes.0.1) 1 sizes.0.0 sizes.1
+  sites ← many_at (site_lanes_at sizes.0.1) 1 sizes.0.0 sizes.1
   finished (ufl_instance sizes.0.1 sites.0) sites.1
 
 -- the instance that the bytes of a file mean, or the first fault of a word; a first line that begins with FILE: is a title

@@ -5,7 +5,7 @@ ghost use Rattle.location_terms.specs.Instance.{IsValid, AreSizes};
 ghost use Rattle.location_terms.specs.Plain.{IsPlain};
 ghost use Rattle.fixed_cost.specs.Reading.{many_at, Reads, ReadsForm, Means};
 ghost use Rattle.instance_store.specs.Numbered.{AreSiteRows};
-ghost use Rattle.ufllib_read.specs.Ufl.{head_at, site_at, ufl_instance, ufl_at};
+ghost use Rattle.ufllib_read.specs.Ufl.{head_at, site_lanes_at, ufl_instance, ufl_at};
 
 use fixed_cost::{FileFault, FileKind, FormFault, WordReader};
 use instance_store::{Instance, ListedSite, SiteLanes};
@@ -45,7 +45,7 @@ fn read_sites(
     custs: u32,
 ) -> Result<Vec<SiteLanes>, FormFault>
     requires { sites ≤ MAX_SITES }
-    ensures { ReadsForm (λ rows. rows.items) result reader.new (many_at (site_at custs) 1 sites reader.old) }
+    ensures { ReadsForm (λ rows. rows.items) result reader.new (many_at (site_lanes_at custs) 1 sites reader.old) }
 {
     let mut rows = Vec::with_capacity(alloc, sites as usize)?;
     for number in 1..sites + 1 {
@@ -56,14 +56,14 @@ fn read_sites(
 }
 
 /// The facility of this number.
-#[tactic(auto, unfolding(crate::specs::Ufl::site_at))]
+#[tactic(auto, unfolding(crate::specs::Ufl::site_lanes_at))]
 fn read_site(
     alloc: Global,
     reader: &mut WordReader<'_>,
     number: u32,
     custs: u32,
 ) -> Result<SiteLanes, FormFault>
-    ensures { ReadsForm (λ row. row) result reader.new (site_at custs number reader.old) }
+    ensures { ReadsForm (λ row. row) result reader.new (site_lanes_at custs number reader.old) }
 {
     reader.exactly(FileKind::BadIndex, number)?;
     let fixed = reader.amount()?.micro();

@@ -4,7 +4,7 @@ use Rattle.location_terms.specs.Optimal.{IsOptimal}
 use Rattle.set_walk.specs.Set.{opened, cost_on, IsNearestPlan}
 use Rattle.set_walk.proofs.Costs.{cost_of-nearest}
 use Rattle.set_walk.proofs.Least.{feasible_nearest, optimal_nearest}
-use Rattle.set_walk.proofs.Steps.{some_where_holds, value_where_holds}
+use Rattle.set_walk.proofs.Steps.{some_where_holds}
 use Rattle.set_walk.proofs.walk.cheapest_plan.Goals as goal
 use Rattle.set_walk.proofs.walk.cheapest_plan.Goals.{After-new}
 
@@ -25,7 +25,7 @@ pub returns-clause-optimal : goal.returns-clause-optimal
 returns-clause-optimal c =
     let before = (goal.at.returns-clause-optimal c).After-new in
     let plan = plan_from before in
-    let is : c.unwrap-plan.result ≡ plan = value_where_holds c.new.result (IsPlan plan) plan c.unwrap-plan.result c.new.ensures c.unwrap-plan.ensures in
+    let is : c.unwrap-plan.result ≡ plan = (rw c.unwrap-plan.ensures at c.new.ensures).1 in
     let best = c.least_set-best in
     subst (IsOptimal c.args.inst.now) (sym is)
     (optimal_nearest c.args.inst.now best.ensures.valid c.requires.plain best.result.set.bits plan (is_nearest before)
@@ -35,7 +35,7 @@ pub returns-clause-cost : goal.returns-clause-cost
 returns-clause-cost c =
     let before = (goal.at.returns-clause-cost c).After-new in
     let plan = plan_from before in
-    let is : c.unwrap-plan.result ≡ plan = value_where_holds c.new.result (IsPlan plan) plan c.unwrap-plan.result c.new.ensures c.unwrap-plan.ensures in
+    let is : c.unwrap-plan.result ≡ plan = (rw c.unwrap-plan.ensures at c.new.ensures).1 in
     let best = c.least_set-best in
     best.ensures.cost
     ∙ sym (cost_of-nearest c.args.inst.now (opened c.args.inst.now best.result.set.bits) plan (is_nearest before))
