@@ -11,7 +11,7 @@ use Rattle.location_terms.specs.declared.limits.TheConstants.{MAX_AMOUNT}
 use Rattle.number_words.specs.Cost.{units_of, decimals_of, micro_text}
 use Rattle.number_words.specs.Number.{is_digits, digits_text}
 use Rattle.number_words.proofs.Digits.{spells-digits_text, digits_append, is_digits-from}
-use Rattle.number_words.proofs.Costs.{six, all_ascii_digits-six, micro_text-is, units_of-micro_text, decimals_of-micro_text, cost_of-micro_text}
+use Rattle.number_words.proofs.Costs.{six, all_ascii_digits-six, micro_text-is, units_of-micro_text, decimals_of-micro_text, spelled_cost-micro_text}
 use Rattle.fixed_cost.specs.Amount.{amount_of, is_numeral, is_in_millionths, millionths, six_places}
 use Rattle.fixed_cost.proofs.Spelling.{amount_of-value}
 
@@ -39,6 +39,6 @@ amount_of-micro_text value low =
     let fine : is_in_millionths word ≡ true = ap (λ w. list_all (λ b. b == 48) (drop 6 (decimals_of w))) no_plus ∙ ap (λ xs. list_all (λ b. b == 48) (drop 6 xs)) part in
     let six_long : six_places (decimals_of word) ≡ decimals_of word = ap six_places part ∙ sym part in
     let same : millionths word ≡ value =
-    ap (λ w. digits_value 10 (units_of w ++ six_places (decimals_of w))) no_plus ∙ ap (λ xs. digits_value 10 (units_of word ++ xs)) six_long ∙ cost_of-micro_text value in
+    ap (λ w. digits_value 10 (units_of w ++ six_places (decimals_of w))) no_plus ∙ ap (λ xs. digits_value 10 (units_of word ++ xs)) six_long ∙ spelled_cost-micro_text value in
     let fits : nat_le (millionths word) MAX_AMOUNT ≡ true = rw same (grind (arith, nat_tests)) in
     amount_of-value word numeral fine ∙ rw (fits, same) refl

@@ -1,5 +1,5 @@
 -- What a reader of words knows, as the definitions say it.
-use Rattle.std.proofs.Common.{◌≡◌, ℕ, ◌<◌, ◌≤◌, true, false, cond, not, ◌&&◌, ◌==◌, nat_le, List, [], ◌∷◌, ◌++◌, length, take, drop, Ok, Err, min, sym, refl, ap, ◌∙◌, arith, inl, inr, take_all}
+use Rattle.std.proofs.Common.{◌≡◌, ℕ, ◌*◌, ◌<◌, ◌≤◌, true, false, cond, not, ◌&&◌, ◌==◌, nat_le, List, [], ◌∷◌, ◌++◌, length, take, drop, Ok, Err, min, sym, refl, ap, ◌∙◌, arith, inl, inr, take_all}
 use Rattle.std.specs.Prelude.{codes}
 use Rattle.std.specs.List.{list_all}
 use Rattle.std.specs.Str.{all_ascii_digits}
@@ -10,7 +10,7 @@ use Rattle.std.proofs.lemmas.List.{drop_all, take-append-drop}
 use Rattle.location_terms.specs.declared.limits.TheConstants.{MAX_AMOUNT}
 use Rattle.number_words.specs.Cost.{units_of, decimals_of}
 use Rattle.number_words.specs.Number.{is_digits}
-use Rattle.number_words.proofs.Digits.{all_ascii_digits-append, is_digits-parts}
+use Rattle.number_words.proofs.Digits.{all_ascii_digits-append, is_digits-parts, digits_value_after-append}
 use Rattle.fixed_cost.specs.declared.amount.AmountFault.TheVariants.{NotANumber, TooFine, TooBig}
 use Rattle.fixed_cost.specs.Amount.{amount_of, count_of, is_numeral, is_in_millionths, millionths, six_places}
 
@@ -39,6 +39,11 @@ six_places-is ds n is =
           let same : n ≡ 6 = omega arith in
           ap (λ k. take k ds ++ drop k (codes "000000")) same ∙ ap (λ xs. take 6 ds ++ xs) (sym (drop_all (length ds) (codes "000000") long))
     ]
+
+-- where no decimals are there, the six places are zeros
+pub six_zeros : (xs ds : List ℕ) → length ds == 0 ≡ true → digits_value 10 (xs ++ six_places ds) ≡ digits_value 10 xs * 1000000
+six_zeros xs [] none = let whole = digits_value_after-append xs (codes "000000") 0 in omega (arith, whole)
+six_zeros xs (d ∷ ds) none = let zero : length (d ∷ ds) ≡ 0 = grind (arith, nat_tests) in absurd (omega (arith, zero))
 
 -- what is known of the parts of a word is known of the word
 pub numeral-is : (word body units part : List ℕ) → body ≡ without_leading_plus word → units ≡ units_of body → part ≡ decimals_of body → is_digits (units ++ part) ≡ is_numeral word

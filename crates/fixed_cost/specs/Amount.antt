@@ -28,7 +28,7 @@ is_in_millionths word = list_all (λ b. b == 48) (drop 6 (decimals word))
 abbrev pub six_places : List ℕ → List ℕ
 six_places ds = take 6 ds ++ drop (length ds) (codes "000000")
 
--- the value of the digits of a word up to the sixth decimal, which is its millionths
+-- the value of the digits of a word and of its six places, which is its millionths
 abbrev pub millionths : List ℕ → ℕ
 millionths word = digits_value 10 (whole_part word ++ six_places (decimals word))
 

@@ -8,18 +8,18 @@ use Rattle.fixed_cost.specs.declared.fault.FileKind.TheVariants.{Ended, NotANumb
 use Rattle.fixed_cost.specs.declared.fault.FileFault.{FileFault}
 
 -- the name of a kind, as it is printed
-abbrev pub kind_name : FileKind → List ℕ
-kind_name Ended = codes "Ended"
-kind_name NotANumber = codes "NotANumber"
-kind_name TooFine = codes "TooFine"
-kind_name TooBig = codes "TooBig"
-kind_name BadSize = codes "BadSize"
-kind_name BadIndex = codes "BadIndex"
-kind_name NotZero = codes "NotZero"
-kind_name Trailing = codes "Trailing"
-kind_name NeedCapacity = codes "NeedCapacity"
-kind_name BadVertex = codes "BadVertex"
-kind_name BadWord = codes "BadWord"
+abbrev pub file_kind_name : FileKind → List ℕ
+file_kind_name Ended = codes "Ended"
+file_kind_name NotANumber = codes "NotANumber"
+file_kind_name TooFine = codes "TooFine"
+file_kind_name TooBig = codes "TooBig"
+file_kind_name BadSize = codes "BadSize"
+file_kind_name BadIndex = codes "BadIndex"
+file_kind_name NotZero = codes "NotZero"
+file_kind_name Trailing = codes "Trailing"
+file_kind_name NeedCapacity = codes "NeedCapacity"
+file_kind_name BadVertex = codes "BadVertex"
+file_kind_name BadWord = codes "BadWord"
 
 -- the fault of a file where an amount's word has one
 abbrev pub kind_of : AmountFault → FileKind
@@ -37,4 +37,4 @@ ended_fault ws = record { kind = Ended; line = (end_of ws).0; word = (end_of ws)
 
 -- a fault as it is printed: its kind, its line and its word
 abbrev pub fault_text : FileFault → List ℕ
-fault_text fault = kind_name fault.kind ++ codes " line " ++ decimal fault.line ++ codes " word " ++ decimal fault.word
+fault_text fault = file_kind_name fault.kind ++ codes " line " ++ decimal fault.line ++ codes " word " ++ decimal fault.word

@@ -1,6 +1,6 @@
 //! Amounts and counts, and the words that spell them.
 
-ghost use Rattle.std.specs.Prelude.{◌≡◌, ◌==◌, ◌^◌, ◌/◌, ◌%◌, ◌≤◌, ◌++◌, true, min, drop};
+ghost use Rattle.std.specs.Prelude.{◌≡◌, ◌==◌, ◌/◌, ◌%◌, ◌≤◌, ◌++◌, true, min, drop};
 ghost use Rattle.std.specs.List.{list_all};
 ghost use Rattle.std.specs.Option.{SomeIff};
 ghost use Rattle.std.specs.Str.{all_ascii_digits};
@@ -15,6 +15,9 @@ use thiserror::Error;
 
 /// How many millionths make a unit.
 const UNIT: u64 = 1_000_000;
+
+/// Values are read up to here, which is past every amount and every count.
+const CAP: u64 = 1_000_000_000_000_000_000;
 
 /// A cost, a demand or a capacity: a whole number of millionths of a unit, at most `MAX_AMOUNT`.
 #[derive(Clone, Copy, Debug, PartialEq, Eq, PartialOrd, Ord)]
@@ -94,8 +97,7 @@ impl Amount {
             return Err(AmountFault::TooFine);
         }
         let micro = millionths(whole, decimals);
-        if micro <= u128::from(MAX_AMOUNT) {
-            let micro = micro as u64;
+        if micro <= MAX_AMOUNT {
             Ok(Amount { micro })
         } else {
             Err(AmountFault::TooBig)
@@ -132,15 +134,18 @@ fn is_whole_tail(decimals: &[u8]) -> bool
 }
 
 /// The value of digits and the first six decimals behind them, with zeros for those that aren't there,
-/// or 10^30 past it.
-fn millionths(whole: &[u8], decimals: &[u8]) -> u128
+/// or `CAP` past it.
+fn millionths(whole: &[u8], decimals: &[u8]) -> u64
     requires whole { all_ascii_digits whole.now ≡ true }
     requires decimals { all_ascii_digits decimals.now ≡ true }
-    ensures { result ≡ min (digits_value 10 (whole.now ++ six_places decimals.now)) (10 ^ 30) }
+    ensures { result ≡ min (digits_value 10 (whole.now ++ six_places decimals.now)) CAP }
 {
+    let units = push_digits(0, whole);
+    if decimals.is_empty() {
+        return units.saturating_mul(UNIT).min(CAP);
+    }
     let zeros = b"000000";
     let len = decimals.len().min(6);
-    let units = push_digits(0, whole);
     push_digits(push_digits(units, &decimals[..len]), &zeros[len..])
 }
 
@@ -152,7 +157,7 @@ pub fn read_count(word: &[u8]) -> Result<u32, AmountFault>
         return Err(AmountFault::NotANumber);
     }
     let value = push_digits(0, word);
-    if value <= u128::from(u32::MAX) {
+    if value <= u64::from(u32::MAX) {
         Ok(value as u32)
     } else {
         Err(AmountFault::TooBig)

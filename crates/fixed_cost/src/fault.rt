@@ -1,7 +1,7 @@
 //! What is wrong with a file, and where.
 
 ghost use Rattle.std.specs.Prelude.{◌≡◌, ◌≤◌, length, Some};
-ghost use Rattle.fixed_cost.specs.Faults.{kind_name, kind_of, fault_at, ended_fault, fault_text};
+ghost use Rattle.fixed_cost.specs.Faults.{file_kind_name, kind_of, fault_at, ended_fault, fault_text};
 ghost use Rattle.number_words.specs.Words.{placed, words_of};
 ghost use Rattle.fixed_cost.specs.declared.fault.FormFault.TheVariants.{File, NoMemory};
 
@@ -42,7 +42,7 @@ pub enum FileKind {
 impl FileKind {
     /// The name of the kind, as it is printed.
     pub fn name(self) -> &'static str
-        ensures { result.now ≡ kind_name self }
+        ensures { result.now ≡ file_kind_name self }
     {
         match self {
             FileKind::Ended => "Ended",

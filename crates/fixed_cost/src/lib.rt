@@ -1,4 +1,4 @@
-//! Amounts, the reader of a text's words, and the places of faults in it.
+//! Amounts, the reader of a text's words, and the places of faults in it; amounts and claims as text.
 //!
 //! The readers of instance files stand on these: which amount a word spells, which word is next, and
 //! which fault is told of it.
@@ -15,7 +15,7 @@ pub use fault::{FileFault, FileKind, FormFault};
 pub use limits::MAX_INSTANCE_BYTES;
 pub use location_terms::MAX_AMOUNT;
 pub use number_words::{Word, Words};
-pub use print::print_micro;
+pub use print::{push_claim, push_high, push_micro};
 pub use reader::{WordReader, amount_in};
 
 #[cfg(test)]

@@ -1,28 +1,53 @@
-//! Amounts as text.
+//! Amounts and claims as text.
 
-ghost use Rattle.std.specs.Prelude.{◌≡◌, ◌+◌, ◌/◌, ◌%◌, ◌≤◌, ◌<◌, ◌^◌, length, take, Ok};
+ghost use Rattle.std.specs.Prelude.{◌≡◌, ◌+◌, ◌%◌, ◌≤◌, ◌++◌, OnOk, Ok};
 ghost use Rattle.fixed_cost.specs.Amount.{amount_of};
+ghost use Rattle.fixed_cost.specs.Claim.{high_text, claim_text};
 ghost use Rattle.number_words.specs.Cost.{micro_text, decimals_text};
 
-use itoa::Buffer;
-use location_terms::MAX_AMOUNT;
+use location_terms::{Claim, MAX_AMOUNT};
+use number_words::push_count;
+use std::alloc::AllocError;
 
-/// Writes millionths at the front as text, and answers its length: the whole part without leading
-/// zeros, a point, and six digits. So 22,000,000 is `22.000000`.
-pub fn print_micro(value: u64, into: &mut [u8; 24]) -> usize
-    ensures text { take result into.new ≡ micro_text value }
-    ensures length { result ≡ length (micro_text value) }
-    ensures short { result ≤ 24 }
+/// Appends millionths to a text, in units: the whole part without leading zeros, a point, and six
+/// digits. So 22,000,000 is `22.000000`.
+pub fn push_micro(text: &mut Vec<u8>, micro: u64) -> Result<(), AllocError>
+    ensures written { OnOk result (text.new.items ≡ text.old.items ++ micro_text micro) }
 
     // What is printed of an amount is read back as that amount.
-    ensures read_back { value ≤ MAX_AMOUNT → amount_of (micro_text value) ≡ Ok value }
+    ensures read_back { micro ≤ MAX_AMOUNT → amount_of (micro_text micro) ≡ Ok micro }
 {
-    let mut buffer = Buffer::new();
-    let whole = buffer.format(value / 1_000_000).as_bytes();
-    let point = whole.len();
-    into[..point].copy_from_slice(whole);
-    into[point..point + 7].copy_from_slice(&decimals(value % 1_000_000));
-    point + 7
+    push_count(text, micro / 1_000_000)?;
+    text.extend_from_slice(&decimals(micro % 1_000_000))
+}
+
+/// Appends a claim to a text: `optimal COST`, `infeasible`, or `bracket LOW HIGH`.
+pub fn push_claim(text: &mut Vec<u8>, claim: Claim) -> Result<(), AllocError>
+    ensures { OnOk result (text.new.items ≡ text.old.items ++ claim_text claim) }
+{
+    match claim {
+        Claim::Optimal(cost) => {
+            text.extend_from_slice(b"optimal ")?;
+            push_micro(text, cost)
+        }
+        Claim::Infeasible => text.extend_from_slice(b"infeasible"),
+        Claim::Bracket { low, high } => {
+            text.extend_from_slice(b"bracket ")?;
+            push_micro(text, low)?;
+            text.extend_from_slice(b" ")?;
+            push_high(text, high)
+        }
+    }
+}
+
+/// Appends the high end of a bracket to a text, which is `none` where no plan is known.
+pub fn push_high(text: &mut Vec<u8>, high: Option<u64>) -> Result<(), AllocError>
+    ensures { OnOk result (text.new.items ≡ text.old.items ++ high_text high) }
+{
+    match high {
+        Some(cost) => push_micro(text, cost),
+        None => text.extend_from_slice(b"none"),
+    }
 }
 
 /// A point, and six digits of a number below a million.

@@ -1,4 +1,6 @@
 use crate::*;
+use location_terms::Claim;
+use std::alloc::Global;
 use std::test::Fail;
 
 #[test]
@@ -78,6 +80,39 @@ fn makes_amounts(rt: HostRuntime) {
     }
 }
 
+fn is_printed(alloc: Global, micro: u64, want: &[u8]) -> bool {
+    let mut text = Vec::new(alloc);
+    match push_micro(&mut text, micro) {
+        Ok(()) => text.as_slice() == want,
+        Err(_) => false,
+    }
+}
+
+fn is_claimed(alloc: Global, claim: Claim, want: &[u8]) -> bool {
+    let mut text = Vec::new(alloc);
+    match push_claim(&mut text, claim) {
+        Ok(()) => text.as_slice() == want,
+        Err(_) => false,
+    }
+}
+
+#[test]
+fn prints_claims(rt: HostRuntime) {
+    let alloc = rt.alloc();
+    assert!(rt; is_claimed(alloc, Claim::Optimal(22_000_000), b"optimal 22.000000"));
+    assert!(rt; is_claimed(alloc, Claim::Infeasible, b"infeasible"));
+    let open = Claim::Bracket {
+        low: 1_500_000,
+        high: None,
+    };
+    assert!(rt; is_claimed(alloc, open, b"bracket 1.500000 none"));
+    let both = Claim::Bracket {
+        low: 0,
+        high: Some(7),
+    };
+    assert!(rt; is_claimed(alloc, both, b"bracket 0.000000 0.000007"));
+}
+
 #[test]
 fn prints_amounts(rt: HostRuntime) {
     let rows = [
@@ -89,9 +124,7 @@ fn prints_amounts(rt: HostRuntime) {
         (u64::MAX, "18446744073709.551615"),
     ];
     for (value, want) in rows {
-        let mut text = [b'x'; 24];
-        let len = print_micro(value, &mut text);
-        assert_eq!(rt; &text[..len], want.as_bytes(), "{value}");
+        assert!(rt; is_printed(rt.alloc(), value, want.as_bytes()), "{value}");
     }
 }
 

@@ -9,7 +9,7 @@ use Rattle.std.proofs.lemmas.Bool.Decides.{nat_tests}
 use Rattle.std.proofs.lemmas.List.{drop_at, drop-drop, length-drop}
 use Rattle.std.proofs.lemmas.List.Sums.{split_at_first, passes_at_first}
 use Rattle.number_words.specs.Number.{is_digits, is_plain_digits, digits_text}
-use Rattle.number_words.specs.Cost.{is_point, units_of, decimals_of, is_cost, cost_of, is_plain_cost, decimals_text, micro_text}
+use Rattle.number_words.specs.Cost.{is_point, units_of, decimals_of, is_cost, spelled_cost, is_plain_cost, decimals_text, micro_text}
 use Rattle.number_words.proofs.Digits.{spells-digits_text, digits_text-digits_value, digits_text-plain, digits_value_after-append, digits_value_after-weight, digits_value-below, is_digits-parts, is_digits-from, is_plain_digits-digits_text, is_ascii_digit-text, digit_value-text}
 
 -- the first point stands behind the digits
@@ -93,8 +93,8 @@ is_plain_cost-micro_text n =
     and_from _ _ (and_from _ _ (is_cost-micro_text n) (ap is_plain_digits (units_of-micro_text n) ∙ is_plain_digits-digits_text (n / 1000000)))
     (ap (λ ds. length ds == 6) (decimals_of-micro_text n))
 
-pub cost_of-micro_text : (n : ℕ) → cost_of (micro_text n) ≡ n
-cost_of-micro_text n =
+pub spelled_cost-micro_text : (n : ℕ) → spelled_cost (micro_text n) ≡ n
+spelled_cost-micro_text n =
     let units = digits_text (n / 1000000) in
     ap (λ ds. digits_value 10 (ds ++ decimals_of (micro_text n))) (units_of-micro_text n) ∙ ap (λ ds. digits_value 10 (units ++ ds)) (decimals_of-micro_text n)
     ∙ digits_value_after-append units (six (n % 1000000)) 0
@@ -102,9 +102,9 @@ cost_of-micro_text n =
     ∙ digits_value_after-six (n / 1000000) (n % 1000000) (omega arith) ∙ omega arith
 
 -- a plain cost is the text of its value
-pub micro_text-cost_of : (w : List ℕ) → is_plain_cost w ≡ true → micro_text (cost_of w) ≡ w
+pub micro_text-spelled_cost : (w : List ℕ) → is_plain_cost w ≡ true → micro_text (spelled_cost w) ≡ w
 unfolding micro_text
-micro_text-cost_of w plain =
+micro_text-spelled_cost w plain =
     let us = units_of w in
     let ds = decimals_of w in
     let both = and_parts (is_cost w && is_plain_digits us) (length ds == 6) plain in
@@ -112,11 +112,11 @@ micro_text-cost_of w plain =
     let tests = and_parts (is_digits us) (is_digits ds) units.0 in
     let digits = is_digits-parts ds tests.1 in
     let long : length ds ≡ 6 = eqb-true (length ds) 6 both.1 in
-    let value : cost_of w ≡ digits_value 10 us * 1000000 + digits_value 10 ds =
+    let value : spelled_cost w ≡ digits_value 10 us * 1000000 + digits_value 10 ds =
     digits_value_after-append us ds 0 ∙ digits_value_after-weight ds (digits_value 10 us) ∙ ap (λ k. digits_value 10 us * 10 ^ k + digits_value 10 ds) long in
     let below : digits_value 10 ds < 1000000 = subst (λ k. digits_value 10 ds < 10 ^ k) long (digits_value-below ds digits.1) in
-    let above : cost_of w / 1000000 ≡ digits_value 10 us = omega arith in
-    let rest : cost_of w % 1000000 ≡ digits_value 10 ds = omega arith in
-    ap (λ n. digits_text n ++ decimals_text (cost_of w % 1000000)) above ∙ ap (λ xs. xs ++ decimals_text (cost_of w % 1000000)) (digits_text-plain us units.1)
+    let above : spelled_cost w / 1000000 ≡ digits_value 10 us = omega arith in
+    let rest : spelled_cost w % 1000000 ≡ digits_value 10 ds = omega arith in
+    ap (λ n. digits_text n ++ decimals_text (spelled_cost w % 1000000)) above ∙ ap (λ xs. xs ++ decimals_text (spelled_cost w % 1000000)) (digits_text-plain us units.1)
     ∙ ap (λ n. us ++ decimals_text n) rest ∙ ap (λ xs. us ++ xs) (decimals_text-digits_value ds long digits.1)
     ∙ sym (cost_parts w digits.0)

@@ -9,7 +9,7 @@ use Rattle.std.specs.Str.Parse.{digits_value, digits_value_after}
 use Rattle.std.proofs.Math.Nat.{mul-le-mul_right, pow-le-pow_right}
 use Rattle.std.proofs.lemmas.Bool.{cases_lt, cases_order, and_parts, lt-ltb, le-ltb, ltb-true}
 use Rattle.std.proofs.lemmas.Bool.Decides.{nat_tests}
-use Rattle.std.proofs.lemmas.List.{at_drop_more}
+use Rattle.std.proofs.lemmas.List.{at_drop_more, at_drop_all}
 use Rattle.number_words.specs.Number.{is_plain_digits}
 use Rattle.number_words.proofs.Digits.{digit_value-of, digits_value_after-append, digits_value_after-weight, digits_value-below, is_digits-parts, is_plain_digits-parts}
 
@@ -36,12 +36,35 @@ capped-digit cap v c cs digit =
     let same : c - 48 ≡ digit_value c = omega arith in
     capped-after cap cs (v * 10 + (c - 48)) ∙ ap (λ d. min (digits_value_after 10 (v * 10 + d) cs) cap) same
 
-pub capped-drop : (cap v : ℕ) (ds : List ℕ) (i : ℕ) → i < length ds → is_ascii_digit (get_or ds i 0) ≡ true → min (digits_value_after 10 (min (v * 10 + (get_or ds i 0 - 48)) cap) (drop (i + 1) ds)) cap ≡ min (digits_value_after 10 v (drop i ds)) cap
-capped-drop cap v ds i inside digit =
-    capped-digit cap v (get_or ds i 0) (drop (i + 1) ds) digit ∙ sym (at_drop_more (λ xs. min (digits_value_after 10 v xs) cap) ds i 0 inside)
+-- the value so far, and the digits from a place on, give the value behind all of them, up to a cap
+pub record IsPushed (cap value : ℕ) (ds : List ℕ) (whole i : ℕ) : Type 0 where
+  pub capped : whole ≤ cap
+  pub digits : all_ascii_digits (drop i ds) ≡ true
+  pub same : min (digits_value_after 10 whole (drop i ds)) cap ≡ min (digits_value_after 10 value ds) cap
 
-pub digit-drop : (ds : List ℕ) (i : ℕ) → i < length ds → all_ascii_digits (drop i ds) ≡ true → (is_ascii_digit (get_or ds i 0) ≡ true) × (all_ascii_digits (drop (i + 1) ds) ≡ true)
+digit-drop : (ds : List ℕ) (i : ℕ) → i < length ds → all_ascii_digits (drop i ds) ≡ true → (is_ascii_digit (get_or ds i 0) ≡ true) × (all_ascii_digits (drop (i + 1) ds) ≡ true)
 digit-drop ds i inside digits = and_parts _ _ (sym (at_drop_more all_ascii_digits ds i 0 inside) ∙ digits)
+
+pub digit_value-pushed : {cap value whole i : ℕ} {ds : List ℕ} → IsPushed cap value ds whole i → i < length ds → (48 ≤ get_or ds i 0) × (get_or ds i 0 - 48 ≤ 9)
+digit_value-pushed {cap} {value} {whole} {i} {ds} pushed inside =
+    let of = digit_value-of (get_or ds i 0) (digit-drop ds i inside pushed.digits).0 in
+    (omega (arith, of), omega (arith, of))
+
+pub pushed_more : {cap value whole i : ℕ} {ds : List ℕ} (new : ℕ) → IsPushed cap value ds whole i → i < length ds → new ≡ min (whole * 10 + (get_or ds i 0 - 48)) cap → IsPushed cap value ds new (i + 1)
+pushed_more {cap} {value} {whole} {i} {ds} new pushed inside is =
+    let here = digit-drop ds i inside pushed.digits in
+    record {
+      capped = omega (arith, is);
+      digits = here.1;
+      same = ap (λ v. min (digits_value_after 10 v (drop (i + 1) ds)) cap) is
+          ∙ capped-digit cap whole (get_or ds i 0) (drop (i + 1) ds) here.0
+          ∙ sym (at_drop_more (λ xs. min (digits_value_after 10 whole xs) cap) ds i 0 inside) ∙ pushed.same;
+    }
+
+pub pushed_all : {cap value whole i : ℕ} {ds : List ℕ} → IsPushed cap value ds whole i → length ds ≤ i → whole ≡ min (digits_value_after 10 value ds) cap
+pushed_all {cap} {value} {whole} {i} {ds} pushed done =
+    let last = at_drop_all (λ xs. min (digits_value_after 10 whole xs) cap) ds i done in
+    omega (arith, last, pushed.same, pushed.capped)
 
 -- digits that do not begin with a zero are worth a one behind which as many zeros stand as there are others
 digits_value-least : (c : ℕ) (cs : List ℕ) → all_ascii_digits (c ∷ cs) ≡ true → (c ≡ 48 → ⊥) → 10 ^ length cs ≤ digits_value 10 (c ∷ cs)

@@ -21,8 +21,8 @@ abbrev pub is_cost : List ℕ → Bool
 is_cost word = is_digits (units_of word) && is_digits (decimals_of word)
 
 -- the value of a cost in millionths, of any size, where it has six decimals
-abbrev pub cost_of : List ℕ → ℕ
-cost_of word = digits_value 10 (units_of word ++ decimals_of word)
+abbrev pub spelled_cost : List ℕ → ℕ
+spelled_cost word = digits_value 10 (units_of word ++ decimals_of word)
 
 -- a cost in its one spelling: six decimals, and no leading zero in the whole part but `0` itself
 abbrev pub is_plain_cost : List ℕ → Bool

@@ -28,7 +28,7 @@ words_in_lines line (ws ∷ lines) = words_in_line line 1 ws ++ words_in_lines (
 unfoldable pub words_of : List ℕ → List PlacedWord
 words_of bytes = words_in_lines 1 (map words_of_line (slice_split is_line_feed bytes))
 
--- a text of such lines: the words of each parted by single spaces, and a line feed
+-- a text of lines of words: the words of each line parted by single spaces, and a line feed behind them
 abbrev pub spaced_lines : List (List (List ℕ)) → List ℕ
 spaced_lines lines = flat_map (λ ws. spaced ws ++ 10 ∷ []) lines
 

@@ -1,9 +1,9 @@
 //! Costs: which words spell one, and its value.
 
 ghost use Rattle.std.specs.Prelude.{◌≡◌, ◌^◌, min, IsTrue};
-ghost use Rattle.number_words.specs.Cost.{units_of, decimals_of, is_cost, cost_of, is_plain_cost};
+ghost use Rattle.number_words.specs.Cost.{units_of, decimals_of, is_cost, spelled_cost, is_plain_cost};
 
-use crate::digit_run::{is_digits, is_plain_digits, push_digits};
+use crate::digit_run::{is_digits, is_plain_digits, push_wide_digits};
 
 /// Whether a word spells a cost: one digit or more, a point, and one digit or more.
 pub fn is_cost(word: &[u8]) -> bool
@@ -22,14 +22,14 @@ pub fn is_plain_cost(word: &[u8]) -> bool
     is_plain_digits(units) && is_digits(decimals) && decimals.len() == 6
 }
 
-/// The value of a cost with six decimals in millionths where it is below 10^30, and otherwise 10^30. Of
-/// a cost with other decimals it is the value of its digits without the point.
+/// The value of a cost's digits without the point, or 10^30 past it: its millionths where it has six
+/// decimals.
 pub fn cost(word: &[u8]) -> u128
     requires { IsTrue (is_cost word.now) }
-    ensures { result ≡ min (cost_of word.now) (10 ^ 30) }
+    ensures { result ≡ min (spelled_cost word.now) (10 ^ 30) }
 {
     let (units, decimals) = parts(word);
-    push_digits(push_digits(0, units), decimals)
+    push_wide_digits(push_wide_digits(0, units), decimals)
 }
 
 /// The bytes of a word before its first point, and those after it.

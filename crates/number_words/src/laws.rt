@@ -3,7 +3,7 @@
 ghost use Rattle.std.specs.Prelude.{◌≡◌, ℕ, ℤ, ◌<◌, ◌^◌, IsTrue, List, unsigned_abs};
 ghost use Rattle.std.specs.Fmt.{signed_decimal};
 ghost use Rattle.std.specs.List.{list_all};
-ghost use Rattle.number_words.specs.Cost.{is_cost, cost_of, is_plain_cost, micro_text};
+ghost use Rattle.number_words.specs.Cost.{is_cost, spelled_cost, is_plain_cost, micro_text};
 ghost use Rattle.number_words.specs.Line.{words_of_line, is_word, spaced};
 ghost use Rattle.number_words.specs.Number.{is_number, number_of, is_plain_number, number_text};
 ghost use Rattle.number_words.specs.Words.{words_of, words_in_lines, spaced_lines};
@@ -11,7 +11,7 @@ ghost use Rattle.number_words.specs.Words.{words_of, words_in_lines, spaced_line
 /// Each number and each cost has one plain spelling, words have one line of single spaces, and lines of
 /// words have one text of such lines.
 ///
-/// Numbers and costs are of any size. The text of std ends at 64 digits: below that it is the plain
+/// Numbers and costs are of any size. The text of std holds 64 digits: up to that it is the plain
 /// spelling, and past it it drops the leading digits.
 pub fn spelling()
     // A plain number is what is printed of its value, and what is printed is a plain number.
@@ -24,10 +24,10 @@ pub fn spelling()
 
     // The same of costs.
     ensures cost { (w : List ℕ) → IsTrue (is_cost w) → IsTrue (is_plain_cost w) →
-        micro_text (cost_of w) ≡ w }
+        micro_text (spelled_cost w) ≡ w }
     ensures is_cost { (n : ℕ) → IsTrue (is_cost (micro_text n)) }
     ensures is_plain_cost { (n : ℕ) → IsTrue (is_plain_cost (micro_text n)) }
-    ensures cost_back { (n : ℕ) → cost_of (micro_text n) ≡ n }
+    ensures cost_back { (n : ℕ) → spelled_cost (micro_text n) ≡ n }
 
     // The words of a line of words are those words, and so in a text of such lines.
     ensures words { (ws : List (List ℕ)) → IsTrue (list_all is_word ws) →

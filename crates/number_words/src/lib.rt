@@ -18,7 +18,7 @@ pub use digit_run::{has_digits_alone, is_digits, push_digits};
 pub use laws::spelling;
 pub use limits::MAX_TEXT_BYTES;
 pub use line::{LineWords, is_spaced};
-pub use number_word::{is_number, is_plain_number, number, print_number, rises};
+pub use number_word::{is_number, is_plain_number, number, push_count, push_number, rises};
 pub use scan::Words;
 pub use word::Word;
 

@@ -8,7 +8,7 @@ ghost use Rattle.number_words.specs.Line.{is_blank, words_of_line, is_spaced};
 use std::marker::Model;
 
 /// An iterator over the words of a line, seen as the list of those that are left. A word is a longest
-/// run of bytes that are no space, tab or carriage return; a line has no line feed.
+/// run of bytes that are no space, tab, carriage return or line feed.
 #[derive(Debug, Drop)]
 pub struct LineWords<'a> {
     rest: &'a [u8],

@@ -1,11 +1,12 @@
 //! Whole numbers: which words spell one, its value, and its text.
 
-ghost use Rattle.std.specs.Prelude.{◌≡◌, ◌↔◌, ◌<◌, ◌≤◌, ◌<ℤ◌, true, IsTrue, length, take};
+ghost use Rattle.std.specs.Prelude.{◌≡◌, ◌↔◌, ◌<◌, ◌<ℤ◌, ◌++◌, true, IsTrue, OnOk};
 ghost use Rattle.std.specs.Str.Parse.{digits_value, without_leading_sign};
-ghost use Rattle.number_words.specs.Number.{is_plain_digits, is_number, number_of, is_plain_number, number_text, clamped};
+ghost use Rattle.number_words.specs.Number.{is_plain_digits, is_number, number_of, is_plain_number, digits_text, number_text, clamped};
 
-use crate::digit_run::{is_digits, is_plain_digits, push_digits};
+use crate::digit_run::{is_digits, is_plain_digits, wide_value};
 use itoa::Buffer;
+use std::alloc::AllocError;
 
 /// Whether a word spells a whole number: a sign or none, and digits.
 pub fn is_number(word: &[u8]) -> bool
@@ -30,7 +31,7 @@ pub fn number(word: &[u8]) -> i128
     requires { IsTrue (is_number word.now) }
     ensures { result ≡ clamped (number_of word.now) }
 {
-    let size = push_digits(0, without_sign(word)) as i128;
+    let size = wide_value(without_sign(word)) as i128;
     if word[0] == b'-' { -size } else { size }
 }
 
@@ -53,17 +54,18 @@ pub fn rises(a: &[u8], b: &[u8]) -> bool
     }
 }
 
-/// Writes a number at the front in its plain spelling, and answers its length.
-pub fn print_number(value: i128, into: &mut [u8; 40]) -> usize
-    ensures text { take result into.new ≡ number_text value }
-    ensures length { result ≡ length (number_text value) }
-    ensures short { result ≤ 40 }
+/// Appends a number to a text, in its plain spelling.
+pub fn push_number(text: &mut Vec<u8>, value: i128) -> Result<(), AllocError>
+    ensures { OnOk result (text.new.items ≡ text.old.items ++ number_text value) }
 {
-    let mut buffer = Buffer::new();
-    let text = buffer.format(value).as_bytes();
-    let len = text.len();
-    into[..len].copy_from_slice(text);
-    len
+    text.extend_from_slice(Buffer::new().format(value).as_bytes())
+}
+
+/// Appends a natural number to a text, in its plain spelling.
+pub fn push_count(text: &mut Vec<u8>, n: u64) -> Result<(), AllocError>
+    ensures { OnOk result (text.new.items ≡ text.old.items ++ digits_text n) }
+{
+    text.extend_from_slice(Buffer::new().format(n).as_bytes())
 }
 
 /// A word without a leading sign.

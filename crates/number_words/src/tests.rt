@@ -1,4 +1,5 @@
 use crate::*;
+use std::alloc::Global;
 
 const TEN_TO_30: i128 = 1_000_000_000_000_000_000_000_000_000_000;
 
@@ -37,10 +38,12 @@ fn is_step_up(a: &[u8], b: &[u8]) -> bool {
     }
 }
 
-fn is_printed(value: i128, text: &[u8]) -> bool {
-    let mut buffer = [0; 40];
-    let len = print_number(value, &mut buffer);
-    &buffer[..len] == text
+fn is_printed(alloc: Global, value: i128, text: &[u8]) -> bool {
+    let mut printed = Vec::new(alloc);
+    match push_number(&mut printed, value) {
+        Ok(()) => printed.as_slice() == text,
+        Err(_) => false,
+    }
 }
 
 #[test]
@@ -167,10 +170,22 @@ fn words_of_a_line(rt: HostRuntime) {
 #[test]
 fn prints_numbers(rt: HostRuntime) {
     spelling();
-    assert!(rt; is_printed(0, b"0"));
-    assert!(rt; is_printed(-12, b"-12"));
-    assert!(rt; is_printed(i128::MAX, b"170141183460469231731687303715884105727"));
-    assert!(rt; is_printed(i128::MIN, b"-170141183460469231731687303715884105728"));
+    assert!(rt; is_printed(rt.alloc(), 0, b"0"));
+    assert!(rt; is_printed(rt.alloc(), -12, b"-12"));
+    assert!(rt;
+        is_printed(
+            rt.alloc(),
+            i128::MAX,
+            b"170141183460469231731687303715884105727"
+        )
+    );
+    assert!(rt;
+        is_printed(
+            rt.alloc(),
+            i128::MIN,
+            b"-170141183460469231731687303715884105728"
+        )
+    );
 }
 
 #[test]

@@ -1,19 +1,13 @@
 -- Lines by place, one more behind the others.
-use Rattle.std.proofs.Common.{◌≡◌, ℕ, ◌+◌, List, [], ◌∷◌, ◌++◌, ◌∙◌, ap, sym, arith, flat_map, ℤ, ◌^◌}
+use Rattle.std.proofs.Common.{◌≡◌, ℕ, ◌+◌, List, ◌++◌, ◌∙◌, ap, sym, arith, flat_map, ℤ, ◌^◌}
 use Rattle.std.specs.List.{range_with_len}
-use Rattle.std.proofs.lemmas.List.{map-id, flat_map_more}
-use Rattle.std.proofs.lemmas.List.FromFn.{map-range_with_len_more}
+use Rattle.std.proofs.lemmas.List.{flat_map_more}
 use Rattle.std.proofs.lemmas.Int.{ints}
 use mir.Syntax.{w128}
 use mir.Val.{to_z, of_z}
+use Rattle.location_terms.proofs.Places.{places_more}
 use Rattle.dual_value.proofs.Sizes.{abs_from, kept}
 use Rattle.report.specs.DualsText.{amount_line, FitsU64}
-
-places_more : (k : ℕ) → range_with_len 0 (k + 1) ≡ range_with_len 0 k ++ k ∷ []
-places_more k =
-    sym (map-id (range_with_len 0 (k + 1)))
-    ∙ map-range_with_len_more (λ i. i) 0 k k (omega arith)
-    ∙ ap (λ (places : List ℕ). places ++ k ∷ []) (map-id (range_with_len 0 k))
 
 -- the line at place k behind those at the places before it
 one_line_more : (line : ℕ → List ℕ) (before : List ℕ) (k : ℕ) → (before ++ flat_map line (range_with_len 0 k)) ++ line k ≡ before ++ flat_map line (range_with_len 0 (k + 1))

@@ -1,10 +1,11 @@
 -- The text of duals: the bound that they give where nothing is decided yet, the dual of each customer, and each site's slack.
-use Rattle.std.specs.Prelude.{ℕ, suc, ◌^◌, ◌<◌, List, [], ◌++◌, flat_map, length, codes, decimal, ℤ, pos, negsuc, ◌≤ℤ◌, ◌<ℤ◌}
+use Rattle.std.specs.Prelude.{ℕ, suc, ◌^◌, ◌<◌, List, [], ◌++◌, flat_map, length, codes, ℤ, pos, negsuc, ◌≤ℤ◌, ◌<ℤ◌}
 use Rattle.std.specs.List.{range_with_len}
 use Rattle.location_terms.specs.Instance.{Instance, site_at, customer_at}
 use Rattle.location_terms.specs.Bound.{Duals, v_at, slack_of, bound_of}
 use Rattle.location_terms.specs.Fit.{DualsFit}
 use Rattle.number_words.specs.Cost.{micro_text}
+use Rattle.number_words.specs.Number.{digits_text}
 
 -- millionths as text, with six decimals; the program prints none below 0
 abbrev pub amount_text : ℤ → List ℕ
@@ -13,7 +14,7 @@ amount_text (negsuc n) = codes "-" ++ micro_text (suc n)
 
 -- a line that gives an amount with an id, behind a word
 abbrev pub amount_line : List ℕ → ℕ → ℤ → List ℕ
-amount_line word id amount = word ++ decimal id ++ codes " " ++ amount_text amount ++ codes "\n"
+amount_line word id amount = word ++ digits_text id ++ codes " " ++ amount_text amount ++ codes "\n"
 
 -- the customer at a place, and its dual
 abbrev pub customer_line : Instance → Duals → ℕ → List ℕ

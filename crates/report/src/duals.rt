@@ -1,11 +1,12 @@
 //! The text of duals.
 ghost use Rattle.std.specs.Prelude.{◌≡◌, ◌++◌, ◌<◌, [], length, IfOk, OnOk, flat_map};
 ghost use Rattle.std.specs.List.{range_with_len};
-ghost use Rattle.report.specs.DualsText.{duals_text_of, customer_line, slack_line, amount_line, ArePrintable, FitsU64};
+ghost use Rattle.report.specs.DualsText.{duals_text_of, customer_line, slack_line, amount_line, amount_text, ArePrintable, FitsU64};
 
-use crate::numbers::{push_number, push_signed};
 use dual_value::{Duals, Path, bound, slack};
+use fixed_cost::push_micro;
 use instance_store::{Instance, NoMemory};
+use number_words::push_count;
 use std::alloc::{AllocError, Global};
 
 /// The text of duals of scale 1: the bound that they give where nothing is decided yet, then a line
@@ -59,8 +60,15 @@ fn push_line(text: &mut Vec<u8>, word: &[u8], id: u32, micro: i128) -> Result<()
     ensures { OnOk result (text.new.items ≡ text.old.items ++ amount_line word.now id micro) }
 {
     text.extend_from_slice(word)?;
-    push_number(text, id)?;
+    push_count(text, u64::from(id))?;
     text.extend_from_slice(b" ")?;
     push_signed(text, micro)?;
     text.extend_from_slice(b"\n")
+}
+
+fn push_signed(text: &mut Vec<u8>, micro: i128) -> Result<(), AllocError>
+    requires { FitsU64 micro }
+    ensures { OnOk result (text.new.items ≡ text.old.items ++ amount_text micro) }
+{
+    push_micro(text, micro as u64)
 }

@@ -2,8 +2,7 @@
 #![tactic(auto)]
 
 mod duals;
-mod numbers;
 mod plan;
 
 pub use duals::duals_text;
-pub use plan::{plan_text, push_claim};
+pub use plan::plan_text;

@@ -4,11 +4,12 @@ ghost use Rattle.std.specs.Option.{option_copied};
 ghost use Rattle.location_terms.specs.Instance.{IsValid};
 ghost use Rattle.location_terms.specs.Plan.{IsFeasible};
 ghost use Rattle.plan_meaning.specs.Plan.{serve_at};
-ghost use Rattle.report.specs.PlanText.{plan_text_of, claim_line, site_line, serve_line, high_text};
+ghost use Rattle.report.specs.PlanText.{plan_text_of, site_line, serve_line};
 
-use crate::numbers::{push_amount, push_number};
+use fixed_cost::{push_claim, push_micro};
 use instance_store::{Instance, NoMemory};
 use location_terms::Claim;
+use number_words::push_count;
 use plan_meaning::{Plan, fixed_cost, lane_used};
 use std::alloc::{AllocError, Global};
 
@@ -19,49 +20,21 @@ use std::alloc::{AllocError, Global};
 pub fn plan_text(
     alloc: Global,
     inst: &Instance,
-    claim: &Claim,
+    claim: Claim,
     plan: Option<&Plan>,
 ) -> Result<Vec<u8>, NoMemory>
     requires { IfSome (option_copied plan) (IsFeasible inst.now) }
-    ensures { IfOk result (λ text. text.items ≡ plan_text_of inst.now claim.now (option_copied plan.entry)) }
+    ensures { IfOk result (λ text. text.items ≡ plan_text_of inst.now claim (option_copied plan.entry)) }
 {
     let mut text = Vec::from_slice(alloc, b"dualoc-plan 1\n")?;
     push_claim(&mut text, claim)?;
+    text.extend_from_slice(b"\n")?;
     if let Some(plan) = plan {
         push_sites(&mut text, inst, plan)?;
         push_serves(&mut text, inst, plan)?;
     }
     text.extend_from_slice(b"end\n")?;
     Ok(text)
-}
-
-/// Appends the line of a claim, with its costs in units with six decimals.
-pub fn push_claim(text: &mut Vec<u8>, claim: &Claim) -> Result<(), AllocError>
-    ensures { OnOk result (text.new.items ≡ text.old.items ++ claim_line claim.now) }
-{
-    match claim {
-        Claim::Optimal(cost) => {
-            text.extend_from_slice(b"optimal ")?;
-            push_amount(text, *cost)?;
-        }
-        Claim::Infeasible => text.extend_from_slice(b"infeasible")?,
-        Claim::Bracket { low, high } => {
-            text.extend_from_slice(b"bracket ")?;
-            push_amount(text, *low)?;
-            text.extend_from_slice(b" ")?;
-            push_high(text, *high)?;
-        }
-    }
-    text.extend_from_slice(b"\n")
-}
-
-fn push_high(text: &mut Vec<u8>, high: Option<u64>) -> Result<(), AllocError>
-    ensures { OnOk result (text.new.items ≡ text.old.items ++ high_text high) }
-{
-    match high {
-        None => text.extend_from_slice(b"none"),
-        Some(cost) => push_amount(text, cost),
-    }
 }
 
 fn push_sites(text: &mut Vec<u8>, inst: &Instance, plan: &Plan) -> Result<(), AllocError>
@@ -72,9 +45,9 @@ fn push_sites(text: &mut Vec<u8>, inst: &Instance, plan: &Plan) -> Result<(), Al
     for k in 0..plan.site_count() {
         let site = plan.site(k);
         text.extend_from_slice(b"site ")?;
-        push_number(text, site.number())?;
+        push_count(text, u64::from(site.number()))?;
         text.extend_from_slice(b" ")?;
-        push_amount(text, fixed_cost(inst, site))?;
+        push_micro(text, fixed_cost(inst, site))?;
         text.extend_from_slice(b"\n")?;
     }
     Ok(())
@@ -100,10 +73,10 @@ fn push_serve(text: &mut Vec<u8>, inst: &Instance, plan: &Plan, k: usize) -> Res
     let (cust, site) = plan.serve(k);
     let cost = lane_used(inst, plan, k).unwrap_or(0);
     text.extend_from_slice(b"serve ")?;
-    push_number(text, cust.number())?;
+    push_count(text, u64::from(cust.number()))?;
     text.extend_from_slice(b" ")?;
-    push_number(text, site.number())?;
+    push_count(text, u64::from(site.number()))?;
     text.extend_from_slice(b" ")?;
-    push_amount(text, cost)?;
+    push_micro(text, cost)?;
     text.extend_from_slice(b"\n")
 }

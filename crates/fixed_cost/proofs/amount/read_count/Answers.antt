@@ -10,10 +10,10 @@ pub returns-then-value-from : goal.returns-then-value-from
 returns-then-value-from c =
     let word = c.args.word.now in
     sym (count_of-digits word (sym c.is_digits.ensures ∙ c.if-not-is_digits.false)
-    ∙ in_limit (digits_value 10 word) 4294967295 (10 ^ 30) c.push_digits-value.result c.push_digits-value.ensures (omega arith) (omega arith))
+    ∙ in_limit (digits_value 10 word) 4294967295 (10 ^ 18) c.push_digits-value.result c.push_digits-value.ensures (omega arith) (omega arith))
 
 pub returns-else-value-from : goal.returns-else-value-from
 returns-else-value-from c =
     let word = c.args.word.now in
     sym (count_of-digits word (sym c.is_digits.ensures ∙ c.if-not-is_digits.false)
-    ∙ past_limit (digits_value 10 word) 4294967295 (10 ^ 30) c.push_digits-value.result c.push_digits-value.ensures (λ low. omega arith))
+    ∙ past_limit (digits_value 10 word) 4294967295 (10 ^ 18) c.push_digits-value.result c.push_digits-value.ensures (λ low. omega arith))

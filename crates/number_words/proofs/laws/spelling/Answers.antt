@@ -1,4 +1,4 @@
-use Rattle.number_words.proofs.Costs.{micro_text-cost_of, is_cost-micro_text, is_plain_cost-micro_text, cost_of-micro_text}
+use Rattle.number_words.proofs.Costs.{micro_text-spelled_cost, is_cost-micro_text, is_plain_cost-micro_text, spelled_cost-micro_text}
 use Rattle.number_words.proofs.Lines.{words_of_line-spaced, is_word-number_text, is_word-micro_text}
 use Rattle.number_words.proofs.Numbers.{number_text-number_of, is_number-number_text, is_plain_number-number_text, number_of-number_text, number_text-signed_decimal}
 use Rattle.number_words.proofs.WordSteps.{words_of-spaced_lines}
@@ -20,7 +20,7 @@ pub returns-clause-number_printed : goal.returns-clause-number_printed
 returns-clause-number_printed c z small = number_text-signed_decimal z small
 
 pub returns-clause-cost : goal.returns-clause-cost
-returns-clause-cost c w cost plain = micro_text-cost_of w plain
+returns-clause-cost c w cost plain = micro_text-spelled_cost w plain
 
 pub returns-clause-is_cost : goal.returns-clause-is_cost
 returns-clause-is_cost c n = is_cost-micro_text n
@@ -29,7 +29,7 @@ pub returns-clause-is_plain_cost : goal.returns-clause-is_plain_cost
 returns-clause-is_plain_cost c n = is_plain_cost-micro_text n
 
 pub returns-clause-cost_back : goal.returns-clause-cost_back
-returns-clause-cost_back c n = cost_of-micro_text n
+returns-clause-cost_back c n = spelled_cost-micro_text n
 
 pub returns-clause-words : goal.returns-clause-words
 returns-clause-words c ws words = words_of_line-spaced ws words

@@ -21,18 +21,18 @@ millionths-micro-requires-clause-whole c = (both_digits c.parts.result.0.now c.p
 pub millionths-micro-requires-clause-decimals : goal.millionths-micro-requires-clause-decimals
 millionths-micro-requires-clause-decimals c = (both_digits c.parts.result.0.now c.parts.result.1.now (sym c.has_digits.ensures ∙ c.if-not-has_digits.false)).1
 
-pub returns-then-micro-from : goal.returns-then-micro-from
-returns-then-micro-from c =
+pub returns-then-micro-le-MAX_AMOUNT : goal.returns-then-micro-le-MAX_AMOUNT
+returns-then-micro-le-MAX_AMOUNT c =
     let word = c.args.word.now in
     let numeral : is_numeral word ≡ true = sym (numeral-is word _ _ _ c.without_plus.ensures c.parts.ensures.units c.parts.ensures.decimals) ∙ sym c.has_digits.ensures ∙ c.if-not-has_digits.false in
     let fine : is_in_millionths word ≡ true = sym (fine-is word _ _ c.without_plus.ensures c.parts.ensures.decimals) ∙ sym c.is_whole_tail.ensures ∙ c.if-not-is_whole_tail.false in
-    let read = c.millionths-micro.ensures ∙ ap (λ n. min n (10 ^ 30)) (millionths-is word _ _ _ c.without_plus.ensures c.parts.ensures.units c.parts.ensures.decimals) in
-    sym (amount_of-value word numeral fine ∙ in_limit (millionths word) MAX_AMOUNT (10 ^ 30) c.millionths-micro.result read (omega arith) (omega arith))
+    let read = c.millionths-micro.ensures ∙ ap (λ n. min n (10 ^ 18)) (millionths-is word _ _ _ c.without_plus.ensures c.parts.ensures.units c.parts.ensures.decimals) in
+    sym (amount_of-value word numeral fine ∙ in_limit (millionths word) MAX_AMOUNT (10 ^ 18) c.millionths-micro.result read (omega arith) (omega arith))
 
-pub returns-else-micro-from : goal.returns-else-micro-from
-returns-else-micro-from c =
+pub returns-else-micro-le-MAX_AMOUNT : goal.returns-else-micro-le-MAX_AMOUNT
+returns-else-micro-le-MAX_AMOUNT c =
     let word = c.args.word.now in
     let numeral : is_numeral word ≡ true = sym (numeral-is word _ _ _ c.without_plus.ensures c.parts.ensures.units c.parts.ensures.decimals) ∙ sym c.has_digits.ensures ∙ c.if-not-has_digits.false in
     let fine : is_in_millionths word ≡ true = sym (fine-is word _ _ c.without_plus.ensures c.parts.ensures.decimals) ∙ sym c.is_whole_tail.ensures ∙ c.if-not-is_whole_tail.false in
-    let read = c.millionths-micro.ensures ∙ ap (λ n. min n (10 ^ 30)) (millionths-is word _ _ _ c.without_plus.ensures c.parts.ensures.units c.parts.ensures.decimals) in
-    sym (amount_of-value word numeral fine ∙ past_limit (millionths word) MAX_AMOUNT (10 ^ 30) c.millionths-micro.result read (λ low. omega arith))
+    let read = c.millionths-micro.ensures ∙ ap (λ n. min n (10 ^ 18)) (millionths-is word _ _ _ c.without_plus.ensures c.parts.ensures.units c.parts.ensures.decimals) in
+    sym (amount_of-value word numeral fine ∙ past_limit (millionths word) MAX_AMOUNT (10 ^ 18) c.millionths-micro.result read (λ low. omega arith))
