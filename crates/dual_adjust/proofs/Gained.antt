@@ -1,7 +1,8 @@
 -- What trials, rounds and the whole adjustment come to.
-use Rattle.std.proofs.Common.{◌≡◌, ℕ, ◌<◌, ◌≤◌, sym, ap, subst, ◌∙◌, arith, length, Option, Some, unwrap_or, ℤ, ◌≤ℤ◌, ◌<ℤ◌, None}
+use Rattle.std.proofs.Common.{◌≡◌, ℕ, ◌<◌, ◌≤◌, refl, Bool, true, false, sym, ap, subst, ◌∙◌, arith, length, Option, Some, unwrap_or, ℤ, ◌≤ℤ◌, ◌<ℤ◌, None}
 use mir.Syntax.{w128}
 use mir.Val.{to_z, of_z}
+use Rattle.std.specs.Prelude.{int_lt}
 use Rattle.std.proofs.lemmas.Int.{ints}
 use Rattle.location_terms.specs.Instance.{Instance, IsValid}
 use Rattle.location_terms.specs.Box.{Path}
@@ -15,14 +16,16 @@ use Rattle.dual_ascent.specs.Levels.{customer_places}
 use Rattle.dual_ascent.specs.Ascent.{with_v, IsAscended, IsAscendedApart, IsBlocked}
 use Rattle.dual_ascent.specs.Kept.{Keeps}
 use Rattle.dual_ascent.specs.Work.{IsWorkFor}
+use Rattle.dual_ascent.proofs.Tested.{int_lt-less, int_lt-not}
 use Rattle.dual_ascent.proofs.Again.{again}
 use Rattle.dual_ascent.proofs.Results.{all_known}
 use Rattle.dual_ascent.proofs.Rounds.{one_ascent}
+use Rattle.dual_adjust.specs.Slackness.{tight_sites, is_violating}
 use Rattle.dual_adjust.specs.Adjustment.{greatest, lowered, IsCandidate, Gains}
 use Rattle.dual_adjust.specs.Paid.{levels_below}
 use Rattle.dual_adjust.specs.Present.{Present, HasAscended, HaveSamePrices}
-use Rattle.dual_adjust.specs.Adjusted.{IsTried, AreTrials, IsAdjusted, IsGain}
-use Rattle.dual_adjust.proofs.Lowered.{no_gain, lower_level_small}
+use Rattle.dual_adjust.specs.Adjusted.{IsTried, IsTrial, AreTrials, HasGained, IsAdjusted, IsGain}
+use Rattle.dual_adjust.proofs.Lowered.{no_gain, lower_level_small, lowered_is_tame, candidate_keeps}
 use Rattle.dual_adjust.specs.Stored.{AreAlike}
 use Rattle.dual_adjust.specs.declared.trials.Trials.TheInside.{Inside}
 
@@ -33,14 +36,14 @@ module _ (I : Instance) (path : Path) where
       record { tame = keeps.tame; ascended = again I path (customer_places I) (all_known I path) start tame.fit.of_instance.customers p.duals asc; blocked = blocked; slacks = slacks; work = work }
 
   -- the duals of the trial, a copy of the present ones with the customer's dual lowered
-  pub lowered_from : (d a b : Duals) (j : ℕ) (l : ℤ) → IsValid I → AreTame I d → j < length I.customers → greatest (levels_below I path d j) ≡ Some l → a ≡ d → b ≡ with_v a j (to_z w128 (of_z w128 l)) → b ≡ lowered I path d j
+  lowered_from : (d a b : Duals) (j : ℕ) (l : ℤ) → IsValid I → AreTame I d → j < length I.customers → greatest (levels_below I path d j) ≡ Some l → a ≡ d → b ≡ with_v a j (to_z w128 (of_z w128 l)) → b ≡ lowered I path d j
   lowered_from d a b j l valid tame inside is copied set =
       let bits : to_z w128 (of_z w128 l) ≡ l = kept l MAX_VALUE (lower_level_small I path d j valid tame inside l is) (omega arith) in
       let value : unwrap_or (greatest (levels_below I path d j)) (v_at d j) ≡ l = ap (λ (o : Option ℤ). unwrap_or o (v_at d j)) is in
       set ∙ ap (λ (e : Duals). with_v e j (to_z w128 (of_z w128 l))) copied ∙ ap (with_v d j) (bits ∙ sym value)
 
   -- what comes of it is the customer's candidate
-  pub candidate_from : (d b e : Duals) (j : ℕ) → b ≡ lowered I path d j → (risen : Duals) × IsAscendedApart I path j b risen × IsAscended I path risen e → IsCandidate I path d j e
+  candidate_from : (d b e : Duals) (j : ℕ) → b ≡ lowered I path d j → (risen : Duals) × IsAscendedApart I path j b risen × IsAscended I path risen e → IsCandidate I path d j e
   candidate_from d b e j is found = (found.0, subst (λ (f : Duals). IsAscendedApart I path j f found.0) is found.1, found.2)
 
   -- duals and arrays of one instance are stored alike
@@ -84,6 +87,43 @@ module _ (I : Instance) (path : Path) where
   adjusted_once start a p (Some next) asc keeps prices risen trials =
       let greater = trials.2.greater in
       adjusted_from 1 start a p asc keeps prices risen (omega (arith, ints, greater)) (λ _ _. greater)
+
+-- a trial: the present duals are copied, the customer's dual falls to the greatest level below it, and the duals rise again
+module _ (I : Instance) (path : Path) (old p : Present) (same : p ≡ old) (risen : HasAscended I path old) where
+  pub has_ascended : HasAscended I path p
+  has_ascended = subst (HasAscended I path) (sym same) risen
+
+  module _ (valid : IsValid I) (j : ℕ) (within : j < length I.customers) (violating : is_violating I path p.duals (tight_sites I path p.duals) j ≡ true) (l : ℤ) (is : greatest (levels_below I path p.duals j) ≡ Some l) (copied set : Duals) (copy : copied ≡ p.duals) (falls : set ≡ with_v copied j (to_z w128 (of_z w128 l))) where
+    has_fallen : set ≡ lowered I path p.duals j
+    has_fallen = lowered_from I path p.duals copied set j l valid has_ascended.tame within is copy falls
+
+    pub fallen_tame : AreTame I set
+    fallen_tame = subst (AreTame I) (sym has_fallen) (lowered_is_tame I path p.duals j valid has_ascended.tame within)
+
+    module _ (new : Present) (found : (r : Duals) × IsAscendedApart I path j set r × IsAscended I path r new.duals) where
+      candidate : IsCandidate I path p.duals j new.duals
+      candidate = candidate_from I path p.duals set new.duals j has_fallen found
+
+      pub tried_from : HasAscended I path new → IsTried I path old new
+      tried_from ascended =
+          let stays = candidate_keeps I path p.duals j valid has_ascended.tame within new.duals candidate in
+          subst (λ (q : Present). IsTried I path q new) same (record { same_prices = record { scale = stays.0; count_price = stays.1; prices = stays.2 }; risen = ascended })
+
+      -- by the test of the code, which has the bound of the present duals
+      module _ (bound : ℤ) (size : to_z w128 (of_z w128 bound) ≡ bound) (bound_is : bound ≡ bound_of I path old.duals) where
+        tested : (t : Bool) → int_lt (to_z w128 (of_z w128 bound)) (bound_of I path new.duals) ≡ t → int_lt (bound_of I path p.duals) (bound_of I path new.duals) ≡ t
+        tested t test = subst (λ b. int_lt b (bound_of I path new.duals) ≡ t) (size ∙ bound_is ∙ ap (λ (q : Present). bound_of I path q.duals) (sym same)) test
+
+        pub trial_fails : int_lt (to_z w128 (of_z w128 bound)) (bound_of I path new.duals) ≡ false → IsTrial I path old.duals p.duals j false
+        trial_fails test =
+            let trial : IsTrial I path p.duals p.duals j false = (refl, λ _. (new.duals, candidate, int_lt-not (bound_of I path p.duals) (bound_of I path new.duals) (tested false test))) in
+            subst (λ (q : Present). IsTrial I path q.duals p.duals j false) same trial
+
+        pub trial_gains : int_lt (to_z w128 (of_z w128 bound)) (bound_of I path new.duals) ≡ true → HasGained I path old.duals new.duals
+        trial_gains test =
+            let greater = int_lt-less (bound_of I path p.duals) (bound_of I path new.duals) (tested true test) in
+            let gains : Gains I path p.duals = record { customer = j; within = within; violating = violating; candidate = new.duals; is_candidate = candidate; greater = greater } in
+            subst (λ (q : Present). HasGained I path q.duals new.duals) same (record { gains = gains; greater = greater })
 
 -- a search for the first step that gains, from duals that are their own ascent, in the prepared box
 module _ (I : Instance) (path : Path) (b : Prepared) (same_box : b ≡ (let box : Prepared = record { instance = I; path = path } in box)) (d s : Duals) (same_start : s ≡ d) (own : IsAscended I path d d) (old : Present) (asc : IsAscended b.instance b.path s old.duals) where

@@ -1,6 +1,6 @@
 -- The greatest level below a customer's dual, found out by a walk over the customer's lanes.
-use Rattle.std.proofs.Common.{◌≡◌, ℕ, ◌+◌, ◌<◌, ◌≤◌, refl, sym, ap, subst, ◌∙◌, inl, inr, arith, Bool, true, false, cond, List, [], ◌∷◌, length, get_or, Option, Some, None, ℤ, ◌≤ℤ◌}
-use Rattle.std.specs.Prelude.{All, Contains, int_lt, if◌then◌else◌}
+use Rattle.std.proofs.Common.{◌≡◌, ℕ, ◌+◌, ◌*◌, ◌<◌, ◌≤◌, refl, sym, ap, subst, ◌∙◌, inl, inr, arith, Bool, true, false, cond, List, [], ◌∷◌, length, get_or, Option, Some, None, ℤ, pos, ◌≤ℤ◌}
+use Rattle.std.specs.Prelude.{All, Contains, int_lt, int_le, if◌then◌else◌}
 use Rattle.std.specs.List.{fold}
 use Rattle.std.specs.Int.{int_max}
 use Rattle.std.proofs.lemmas.Bool.{false≢true, cases_Bool, cases_lt, and_from, and_parts}
@@ -19,7 +19,7 @@ use Rattle.dual_adjust.specs.Paid.{is_paid, levels_below, greater_of}
 use Rattle.dual_adjust.specs.Walk.{IsLaneWalk}
 use Rattle.dual_adjust.proofs.MoreThanOne.{kept_by}
 use Rattle.dual_adjust.proofs.Violating.{is_server, server_within}
-use Rattle.dual_adjust.proofs.LanesPaid.{site_of, none, paid_rank}
+use Rattle.dual_adjust.proofs.LanesPaid.{site_of, none, paid_rank, dear_on}
 
 none_greatest : (xs : List ℤ) → ((x : ℤ) → Contains xs x → ⊥) → greatest xs ≡ None
 none_greatest [] empty = refl
@@ -47,17 +47,17 @@ module _ (p : ℕ → Bool) (f : ℕ → ℤ) (at : ℕ → ℕ) where
   IsBest k None = (r : ℕ) → r < k → p (at r) ≡ false
   IsBest k (Some m) = (one : ℕ) × (one < k) × (p (at one) ≡ true) × (f (at one) ≡ m) × ((r : ℕ) → r < k → p (at r) ≡ true → f (at r) ≤ℤ m)
 
-  pub no_best : IsBest 0 None
+  no_best : IsBest 0 None
   no_best r b = absurd (omega (arith, b))
 
   -- those up to n fail
-  pub best_on : (best : Option ℤ) (k n : ℕ) → IsBest k best → ((r : ℕ) → k ≤ r → r < n → p (at r) ≡ false) → k ≤ n → IsBest n best
+  best_on : (best : Option ℤ) (k n : ℕ) → IsBest k best → ((r : ℕ) → k ≤ r → r < n → p (at r) ≡ false) → k ≤ n → IsBest n best
   best_on None k n none later up = λ r b. elim (cases_lt r k) [ inl before ↦ none r before | inr after ↦ later r after b ]
   best_on (Some m) k n found later up =
       let here = found.1 in
       (found.0, omega (arith, here, up), found.2, found.3, λ r b t. elim (cases_lt r k) [ inl before ↦ found.4 r before t | inr after ↦ absurd (false≢true (sym (later r after b) ∙ t)) ])
 
-  pub best_next : (best : Option ℤ) (k : ℕ) → IsBest k best → p (at k) ≡ false → IsBest (k + 1) best
+  best_next : (best : Option ℤ) (k : ℕ) → IsBest k best → p (at k) ≡ false → IsBest (k + 1) best
   best_next best k so_far fails = best_on best k (k + 1) so_far (λ r low b. let same : r ≡ k = omega (arith, low, b) in ap (λ n. p (at n)) same ∙ fails) (omega arith)
 
   best_first : (k : ℕ) → IsBest k None → p (at k) ≡ true → IsBest (k + 1) (Some (f (at k)))
@@ -90,7 +90,7 @@ module _ (p : ℕ → Bool) (f : ℕ → ℤ) (at : ℕ → ℕ) where
   step_by true (Some m) k passes so_far = best_more k m so_far passes
 
   -- with the next one's number, where it passes
-  pub best_step : (best l : Option ℤ) (k : ℕ) → IsBest k best → l ≡ (if p (at k) then Some (f (at k)) else None) → IsBest (k + 1) (greater_of best l)
+  best_step : (best l : Option ℤ) (k : ℕ) → IsBest k best → l ≡ (if p (at k) then Some (f (at k)) else None) → IsBest (k + 1) (greater_of best l)
   best_step best l k so_far is = subst (λ o. IsBest (k + 1) (greater_of best o)) (sym is) (step_by (p (at k)) best k refl so_far)
 
 module _ (I : Instance) (path : Path) (d : Duals) (order : Order) (j : ℕ) (lanes : List PlacedLane) (walk : IsLaneWalk I order j lanes) where
@@ -121,7 +121,7 @@ module _ (I : Instance) (path : Path) (d : Duals) (order : Order) (j : ℕ) (lan
       let listed : Contains (levels_of I path d j) (level i) = (server.0, omega (arith, inside, length-map (servers I path j) level), get_or-map level (servers I path j) server.0 i (level i) inside ∙ ap level server.2) in
       kept_by (λ x. int_lt x (v_at d j)) (levels_of I path d j) (level i) listed parts.1
 
-  pub walked_greatest : (best : Option ℤ) → IsBest pays level site (length lanes) best → greatest (levels_below I path d j) ≡ best
+  walked_greatest : (best : Option ℤ) → IsBest pays level site (length lanes) best → greatest (levels_below I path d j) ≡ best
   walked_greatest None fails =
       none_greatest (levels_below I path d j) (λ l c.
       let of = below_is_paid l c in
@@ -137,3 +137,21 @@ module _ (I : Instance) (path : Path) (d : Duals) (order : Order) (j : ℕ) (lan
       let less = found.4 rank.0 rank.1 (ap pays rank.2 ∙ of.2) in
       let same : level (site rank.0) ≡ l = ap level rank.2 ∙ of.3 in
       omega (arith, ints, less, same))
+
+  -- what is known of the first k lanes
+  abbrev pub IsFound : ℕ → Option ℤ → Type 0
+  IsFound = IsBest pays level site
+
+  pub none_found : IsFound 0 None
+  none_found = no_best pays level site
+
+  -- with the next lane's level, where it is paid
+  pub found_next : (best l next : Option ℤ) (k : ℕ) → IsFound k best → l ≡ (if pays (site k) then Some (level (site k)) else None) → next ≡ greater_of best l → IsFound (k + 1) next
+  found_next best l next k so_far is greater = subst (IsFound (k + 1)) (sym greater) (best_step pays level site best l k so_far is)
+
+  pub found_all : (best : Option ℤ) (k : ℕ) → k ≡ length lanes → IsFound k best → best ≡ greatest (levels_below I path d j)
+  found_all best k all so_far = sym (walked_greatest best (subst (λ n. IsFound n best) all so_far))
+
+  -- from a lane that costs as much as the dual on, nothing more is found
+  pub found_before : (best : Option ℤ) (k : ℕ) → k < length lanes → int_le (v_at d j) (pos (d.q * (get_or lanes k none).cost)) ≡ true → IsFound k best → best ≡ greatest (levels_below I path d j)
+  found_before best k b dear so_far = sym (walked_greatest best (best_on pays level site best k (length lanes) so_far (dear_on I path d order j lanes walk k b dear) (omega (arith, b))))

@@ -20,7 +20,7 @@ use Rattle.dual_ascent.proofs.Walked.{allowed_has_lane}
 use Rattle.dual_adjust.specs.Slackness.{is_tight, tight_sites, is_violating}
 use Rattle.dual_adjust.specs.Paid.{is_paid, is_paid_tight}
 use Rattle.dual_adjust.specs.Walk.{IsLaneWalk}
-use Rattle.dual_adjust.proofs.MoreThanOne.{IsSeen, seen_same}
+use Rattle.dual_adjust.proofs.MoreThanOne.{IsSeen, nothing_seen, seen_on, seen_same}
 use Rattle.dual_adjust.proofs.Violating.{PaysNamed, two_paid, one_paid, tight_is_named, named_is_tight}
 
 pub walk_of : {order : Order} {j : ℕ} {lanes : List PlacedLane} (J I : Instance) → J ≡ I → IsValid J → IsOrderOf order I → j < length I.customers → map (named order.sites) lanes ≡ lanes_to order j
@@ -87,7 +87,7 @@ module _ (I : Instance) (path : Path) (d : Duals) where
         (inside, tight_is_named I path d walk.valid (site_of r) inside parts.0, parts.1)
 
     -- the next lane's site is the second tight one that the customer pays
-    pub second_lane : (k : ℕ) → k < length lanes → IsSeen pays_tight site_of k true → pays_tight (site_of k) ≡ true → is_violating I path d (tight_sites I path d) j ≡ true
+    second_lane : (k : ℕ) → k < length lanes → IsSeen pays_tight site_of k true → pays_tight (site_of k) ≡ true → is_violating I path d (tight_sites I path d) j ≡ true
     second_lane k b found passes =
         let before = found.1 in
         let c : found.0 < length lanes = omega (arith, before, b) in
@@ -95,10 +95,29 @@ module _ (I : Instance) (path : Path) (d : Duals) where
         two_paid I path d j (tight_sites I path d) (site_of found.0) (site_of k) (tight_paid found.0 c found.2) (tight_paid k b passes) apart
 
     -- there is no second one
-    pub no_second_lane : (seen : Bool) → IsSeen pays_tight site_of (length lanes) seen → is_violating I path d (tight_sites I path d) j ≡ false
+    no_second_lane : (seen : Bool) → IsSeen pays_tight site_of (length lanes) seen → is_violating I path d (tight_sites I path d) j ≡ false
     no_second_lane seen all_seen =
         let one = seen_same pays_tight site_of seen (length lanes) all_seen in
         one_paid I path d j (tight_sites I path d) one.0 (λ i h.
         let at = paid_rank i h.0 h.2 in
         let passes : pays_tight i ≡ true = and_from (is_tight I path d i) (is_paid I path d i j) (named_is_tight I path d walk.valid i h.0 h.1) h.2 in
         sym at.2 ∙ one.1 at.0 at.1 (ap pays_tight at.2 ∙ passes))
+
+    -- whether some site of the first k lanes is tight and paid
+    abbrev pub HasSeen : ℕ → Bool → Type 0
+    HasSeen = IsSeen pays_tight site_of
+
+    pub none_seen : HasSeen 0 false
+    none_seen = nothing_seen pays_tight site_of
+
+    -- what the walk answers at the second one, at a lane that costs as much as the dual, and at the end
+    pub at_second : (seen : Bool) (k : ℕ) → k < length lanes → seen ≡ true → HasSeen k seen → pays_tight (site_of k) ≡ true → true ≡ is_violating I path d (tight_sites I path d) j
+    at_second seen k b one so_far passes = sym (second_lane k b (subst (HasSeen k) one so_far) passes)
+
+    pub at_dear : (seen : Bool) (k : ℕ) → k < length lanes → int_le (v_at d j) (pos (d.q * (get_or lanes k none).cost)) ≡ true → HasSeen k seen → false ≡ is_violating I path d (tight_sites I path d) j
+    at_dear seen k b dear so_far =
+        let fails : (r : ℕ) → k ≤ r → r < length lanes → pays_tight (site_of r) ≡ false = λ r later inside. and_right (is_tight I path d (site_of r)) (is_paid I path d (site_of r) j) (dear_on k b dear r later inside) in
+        sym (no_second_lane seen (seen_on pays_tight site_of seen k (length lanes) so_far fails (omega (arith, b))))
+
+    pub at_last : (seen : Bool) (k : ℕ) → k ≡ length lanes → HasSeen k seen → false ≡ is_violating I path d (tight_sites I path d) j
+    at_last seen k all so_far = sym (no_second_lane seen (subst (λ n. HasSeen n seen) all so_far))

@@ -142,6 +142,9 @@ module _ (I : Instance) (path : Path) (d : Duals) (j : ℕ) where
         ] in
         rises_by (LetsBy r) all r (stopped, λ i by. by)
 
-    pub at_end : (least : Option ℤ) → IsLeastOver (IsPassed lanes (length lanes)) least → IsOutlook I path d j (shown least)
-    at_end None barred = none_left (IsPassed lanes (length lanes)) (λ i b allowed. served_is_placed I path j lanes walk i b allowed) barred
-    at_end (Some r) known = rises_by (IsPassed lanes (length lanes)) (λ i b allowed. served_is_placed I path j lanes walk i b allowed) r known
+    at_last : (least : Option ℤ) → IsLeastOver (IsPassed lanes (length lanes)) least → IsOutlook I path d j (shown least)
+    at_last None barred = none_left (IsPassed lanes (length lanes)) (λ i b allowed. served_is_placed I path j lanes walk i b allowed) barred
+    at_last (Some r) known = rises_by (IsPassed lanes (length lanes)) (λ i b allowed. served_is_placed I path j lanes walk i b allowed) r known
+
+    pub at_end : (least : Option ℤ) (k : ℕ) → k ≡ length lanes → IsLeastOver (IsPassed lanes k) least → IsOutlook I path d j (shown least)
+    at_end least k all known = at_last least (subst (λ n. IsLeastOver (IsPassed lanes n) least) all known)

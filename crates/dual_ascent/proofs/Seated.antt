@@ -1,6 +1,8 @@
 -- The least level of a customer, as a walk over its lanes finds it.
 use Rattle.std.proofs.Common.{◌≡◌, ℕ, ◌+◌, ◌*◌, ◌<◌, ◌≤◌, refl, sym, ap, subst, ◌∙◌, inl, inr, arith, Bool, true, false, List, length, get_or, Option, Some, None, unwrap_or, ℤ, pos, ◌+ℤ◌, ◌≤ℤ◌, ◌<ℤ◌}
-use Rattle.std.specs.Prelude.{⊤, All, MatchOption, unsigned_abs}
+use mir.Syntax.{w128}
+use mir.Val.{to_z, of_z}
+use Rattle.std.specs.Prelude.{⊤, All, MatchOption, unsigned_abs, int_lt}
 use Rattle.std.specs.Int.{int_min, int_max}
 use Rattle.std.proofs.lemmas.Int.{ints, clamps}
 use Rattle.std.proofs.lemmas.Nat.{mul-le}
@@ -20,7 +22,9 @@ use Rattle.dual_ascent.proofs.Rise.{least_within, least_among}
 use Rattle.dual_ascent.proofs.Measured.{picked_all}
 use Rattle.dual_ascent.proofs.Ceiling.{places_below}
 use Rattle.dual_ascent.proofs.Looked.{cases_le}
-use Rattle.dual_ascent.proofs.Sized.{level_size}
+use Rattle.dual_value.proofs.Sizes.{kept}
+use Rattle.dual_ascent.proofs.Tested.{int_lt-less, int_lt-not}
+use Rattle.dual_ascent.proofs.Sized.{level_size, value_bits}
 use Rattle.dual_ascent.specs.Walk.{IsLaneWalk}
 use Rattle.dual_ascent.proofs.Walked.{IsPassed, passed_more, served_is_placed}
 
@@ -109,8 +113,10 @@ module _ (I : Instance) (path : Path) (d : Duals) (j : ℕ) where
         ] in
         least_is (λ i. (i < length I.sites) × Allowed i) (λ i b allowed. (b, allowed)) (Some l) (level, λ i seen _. later i seen.0 seen.1)
 
-    pub level_end : (least : Option ℤ) → IsLeastOf (IsPassed lanes (length lanes)) least → least ≡ least_level I path d j
-    level_end least known = least_is (IsPassed lanes (length lanes)) (λ i b allowed. served_is_placed I path j lanes walk i b allowed) least known
+    pub level_end : (least : Option ℤ) (k : ℕ) → k ≡ length lanes → IsLeastOf (IsPassed lanes k) least → least ≡ least_level I path d j
+    level_end least k all known =
+        let seen : IsLeastOf (IsPassed lanes (length lanes)) least = subst (λ n. IsLeastOf (IsPassed lanes n) least) all known in
+        least_is (IsPassed lanes (length lanes)) (λ i b allowed. served_is_placed I path j lanes walk i b allowed) least seen
 
   -- the least level is as small as levels are
   pub least_size : IsValid I → DualsFit I d → j < length I.customers → (l : ℤ) → least_level I path d j ≡ Some l → unsigned_abs l ≤ MAX_SCALE * MAX_AMOUNT + MAX_MULTIPLIER * MAX_AMOUNT
@@ -124,12 +130,26 @@ module _ (I : Instance) (path : Path) (d : Duals) (j : ℕ) where
       let same : int_max (v_at d j) (v_at d j) ≡ v_at d j = omega (arith, ints, clamps) in
       ap (λ (o : Option ℤ). with_v d j (int_max (v_at d j) (unwrap_or o (v_at d j)))) is ∙ ap (with_v d j) same ∙ with_same d j
 
-  pub seats_up : (l : ℤ) → least_level I path d j ≡ Some l → v_at d j <ℤ l → seated I path d j ≡ with_v d j l
+  seats_up : (l : ℤ) → least_level I path d j ≡ Some l → v_at d j <ℤ l → seated I path d j ≡ with_v d j l
   seats_up l is below =
       let up : int_max (v_at d j) l ≡ l = omega (arith, ints, clamps, below) in
       ap (λ (o : Option ℤ). with_v d j (int_max (v_at d j) (unwrap_or o (v_at d j)))) is ∙ ap (with_v d j) up
 
-  pub seats_same : (l : ℤ) → least_level I path d j ≡ Some l → l ≤ℤ v_at d j → seated I path d j ≡ d
+  seats_same : (l : ℤ) → least_level I path d j ≡ Some l → l ≤ℤ v_at d j → seated I path d j ≡ d
   seats_same l is under =
       let same : int_max (v_at d j) l ≡ v_at d j = omega (arith, ints, clamps, under) in
       ap (λ (o : Option ℤ). with_v d j (int_max (v_at d j) (unwrap_or o (v_at d j)))) is ∙ ap (with_v d j) same ∙ with_same d j
+
+  -- the same of the numbers that the code has
+  module _ (valid : IsValid I) (fit : DualsFit I d) (customer : j < length I.customers) (l v : ℤ) (is : least_level I path d j ≡ Some l) (value : v ≡ v_at d j) where
+    level_kept : to_z w128 (of_z w128 l) ≡ l
+    level_kept = kept l (MAX_SCALE * MAX_AMOUNT + MAX_MULTIPLIER * MAX_AMOUNT) (least_size valid fit customer l is) (omega arith)
+
+    tested : (t : Bool) → int_lt (to_z w128 (of_z w128 v)) (to_z w128 (of_z w128 l)) ≡ t → int_lt (v_at d j) l ≡ t
+    tested t test = subst (λ x. int_lt (v_at d j) x ≡ t) level_kept (subst (λ x. int_lt x (to_z w128 (of_z w128 l)) ≡ t) (value_bits I path d valid fit j customer v value) test)
+
+    pub seats_set : int_lt (to_z w128 (of_z w128 v)) (to_z w128 (of_z w128 l)) ≡ true → with_v d j (to_z w128 (of_z w128 l)) ≡ seated I path d j
+    seats_set test = ap (with_v d j) level_kept ∙ sym (seats_up l is (int_lt-less (v_at d j) l (tested true test)))
+
+    pub seats_kept : int_lt (to_z w128 (of_z w128 v)) (to_z w128 (of_z w128 l)) ≡ false → d ≡ seated I path d j
+    seats_kept test = sym (seats_same l is (int_lt-not (v_at d j) l (tested false test)))

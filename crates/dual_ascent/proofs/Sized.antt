@@ -32,6 +32,10 @@ scaled_bits z q cost is scale small =
     let within : q * cost ≤ MAX_SCALE * MAX_AMOUNT = mul-le q cost MAX_SCALE MAX_AMOUNT scale small in
     kept z (MAX_SCALE * MAX_AMOUNT) (size_pos z (q * cost) (MAX_SCALE * MAX_AMOUNT) is within) (omega arith) ∙ is
 
+-- the same by the scale of the duals
+pub scaled_level : (d : Duals) (z : ℤ) (q cost : ℕ) → z ≡ pos (q * cost) → q ≡ d.q → d.q ≤ MAX_SCALE → cost ≤ MAX_AMOUNT → to_z w128 (of_z w128 z) ≡ pos (d.q * cost)
+scaled_level d z q cost is same scale small = scaled_bits z q cost is (omega (arith, same, scale)) small ∙ ap (λ n. pos (n * cost)) same
+
 pub scaled_size : (z : ℤ) (q cost : ℕ) → z ≡ pos (q * cost) → q ≤ MAX_SCALE → cost ≤ MAX_AMOUNT → unsigned_abs (to_z w128 (of_z w128 z)) ≤ MAX_VALUE
 scaled_size z q cost is scale small =
     let within : q * cost ≤ MAX_SCALE * MAX_AMOUNT = mul-le q cost MAX_SCALE MAX_AMOUNT scale small in

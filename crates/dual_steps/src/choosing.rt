@@ -7,13 +7,13 @@ use std::num::{nearest_i64_to_f64, saturating_f64_to_i64};
 
 /// A site, by its slack in parts of a millionth where it is free.
 #[derive(Clone, Copy, PartialEq, Eq, PartialOrd, Ord)]
-pub struct Pick {
+pub(crate) struct Pick {
     slack: i64,
     site: usize,
 }
 
 /// No site in particular.
-pub const NO_PICK: Pick = Pick {
+pub(crate) const NO_PICK: Pick = Pick {
     slack: i64::MAX,
     site: 0,
 };
@@ -23,18 +23,18 @@ const PARTS: f64 = 1024.0;
 
 /// How many sites are open in a box at least and at most.
 #[derive(Clone, Copy)]
-pub struct Count {
-    pub lo: usize,
-    pub hi: usize,
+pub(crate) struct Count {
+    pub(crate) lo: usize,
+    pub(crate) hi: usize,
 }
 
 /// What the taken sites come to.
 #[derive(Clone, Copy)]
-pub struct Taken {
+pub(crate) struct Taken {
     /// The sum of their slacks, in millionths.
-    pub sum: f64,
+    pub(crate) sum: f64,
     /// The multiplier of the count: by how much more each site would have to cost.
-    pub extra: f64,
+    pub(crate) extra: f64,
 }
 
 // How many sites are opened, how many are free, and how many of these have a slack below 0.
@@ -47,7 +47,7 @@ struct Census {
 
 /// Marks the taken sites as open: each opened one, and of the free ones those whose slack is below 0,
 /// the least first where the count has to be mended.
-pub fn choose(
+pub(crate) fn choose(
     sites: &[Site],
     slacks: &[f64],
     count: Count,

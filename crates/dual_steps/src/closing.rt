@@ -48,14 +48,14 @@ impl Steps<'_> {
         self.evaluate(order);
         self.keep_better();
         for _step in 0..steps {
-            if self.reaches(target) {
+            if self.progress.reaches(target) {
                 return;
             }
             let squares = turn(&mut self.customers);
             if squares < FLAT {
                 return;
             }
-            let stride = (target - self.bound + 1.0) / squares;
+            let stride = (target - self.progress.last_bound() + 1.0) / squares;
             step_ahead(&mut self.customers, stride);
             self.evaluate(order);
             self.keep_better();
@@ -75,7 +75,7 @@ impl Steps<'_> {
         requires { Suits self.old order.now }
         ensures { self.new ≡ self.old }
     {
-        if !self.is_plan_within || self.reaches(target) {
+        if !self.is_plan_within || self.progress.reaches(target) {
             return Ok(());
         }
         recall_within(&mut self.customers);
@@ -90,25 +90,25 @@ impl Steps<'_> {
         requires { Suits self.old order.now }
         ensures { self.new ≡ self.old }
     {
-        let mut mark = self.best_bound;
+        let mut mark = self.progress.bound();
         for turn in 0..sweeps {
-            if self.reaches(target) {
+            if self.progress.reaches(target) {
                 return;
             }
             sweep(
                 payers,
                 &self.sites,
                 &self.plan,
-                self.extra,
+                self.progress.last_count_price(),
                 &mut self.customers,
             );
             self.evaluate(order);
             self.keep_better();
             if turn % REVIEW == REVIEW - 1 {
-                if self.best_bound - mark < 0.1 * (target - mark) {
+                if self.progress.bound() - mark < 0.1 * (target - mark) {
                     return;
                 }
-                mark = self.best_bound;
+                mark = self.progress.bound();
             }
         }
     }
@@ -123,7 +123,7 @@ impl Steps<'_> {
             return;
         }
         set_aside(&mut self.customers);
-        let left = target - self.best_bound;
+        let left = target - self.progress.bound();
         for reach in 0..REACHES.len() {
             self.snap_within(order, target, unit, REACHES[reach] * (left + 2.0));
         }
@@ -134,7 +134,7 @@ impl Steps<'_> {
         ensures { self.new ≡ self.old }
     {
         for fraction in 0..FRACTIONS.len() {
-            if self.reaches(target) {
+            if self.progress.reaches(target) {
                 return;
             }
             let part = unit / FRACTIONS[fraction];

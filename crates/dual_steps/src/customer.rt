@@ -117,6 +117,18 @@ pub fn slope_products(customers: &[Customer]) -> Products {
     }
 }
 
+/// The sum of the squares of the smoothed slopes; where they are near 0 the last slopes are taken as these.
+pub fn smooth_norm(customers: &mut [Customer]) -> f64
+    ensures { length customers.new ≡ length customers.old }
+{
+    let norm = slope_products(customers).smooth;
+    if norm >= FLAT {
+        return norm;
+    }
+    restart_smooth(customers);
+    slope_products(customers).smooth
+}
+
 /// The weight of new slopes with which the mix is shortest, within a tenth of the greatest.
 pub fn mixing_weight(sums: Products, most: f64) -> f64 {
     let apart = sums.smooth - 2.0 * sums.mixed + sums.slope;

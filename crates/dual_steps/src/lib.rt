@@ -4,11 +4,12 @@
 //! believed: of it is proved that it comes, and what its lengths are. Numbers are floats, in millionths.
 #![tactic(auto)]
 
-pub mod choosing;
+mod choosing;
 mod closing;
 pub mod customer;
 mod payers;
 mod paying;
+mod progress;
 pub mod rounding;
 pub mod site;
 mod snapping;
@@ -19,6 +20,7 @@ mod volume;
 
 pub use instance_store::{Instance, NoMemory};
 pub use lane_order::LaneOrder;
+pub use progress::Progress;
 pub use steps::Steps;
 
 #[cfg(test)]

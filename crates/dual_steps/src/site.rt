@@ -21,7 +21,7 @@ pub fn take_states(boxed: &PreparedBox<'_>, sites: &mut [Site])
 }
 
 /// Whether a plan with these open sites is in the box.
-pub fn is_within(sites: &[Site], open: &[bool]) -> bool
+pub(crate) fn is_within(sites: &[Site], open: &[bool]) -> bool
     requires { length open.now ≡ length sites.now }
 {
     for i in 0..sites.len() {
@@ -41,7 +41,7 @@ fn suits(state: SiteState, open: bool) -> bool {
 }
 
 /// Mixes so much of what is open now into the shares.
-pub fn smooth_shares(open: &[bool], shares: &mut [f64], weight: f64)
+pub(crate) fn smooth_shares(open: &[bool], shares: &mut [f64], weight: f64)
     requires { length open.now ≡ length shares.old }
     ensures { length shares.new ≡ length shares.old }
 {

@@ -3,9 +3,9 @@ ghost use Rattle.std.specs.Prelude.{◌≡◌, ◌<◌, length, IfOk};
 ghost use Rattle.dual_steps.specs.Sizes.{sizes_of, Suits};
 ghost use Rattle.lane_order.specs.Order.{IsOrderOf};
 
-use crate::choosing::{Count, NO_PICK, Pick, choose};
 use crate::customer::{Customer, keep_values, recall_values};
 use crate::paying::{fill_slacks, fill_slopes};
+use crate::progress::Progress;
 use crate::rounding::{fill_rounded, nearest_whole, take_rounded, take_values};
 use crate::site::{Site, take_states};
 use crate::start::{customers_of, sites_of};
@@ -17,9 +17,6 @@ use std::alloc::Global;
 use std::marker::Model;
 use std::num::nearest_u64_to_f64;
 
-// How near to the cost a bound has to come: costs are whole millionths.
-const LEAST_LEFT: f64 = 0.9999;
-
 /// Duals of an instance without capacities, by floats, and the arrays in which they take steps.
 #[derive(Drop)]
 pub struct Steps<'a> {
@@ -27,22 +24,12 @@ pub struct Steps<'a> {
     pub(crate) customers: Vec<Customer>,
     pub(crate) sites: Vec<Site>,
     pub(crate) slacks: Vec<f64>,
-    // The sites that are taken at the duals that are evaluated, and at the best.
-    pub(crate) taken: Vec<bool>,
-    pub(crate) best_taken: Vec<bool>,
-    // The share of evaluations that take each site, smoothed.
-    pub(crate) shares: Vec<f64>,
-    pub(crate) picks: Vec<Pick>,
+    pub(crate) progress: Progress,
     pub(crate) rounded: Vec<i64>,
     rounded_extra: i64,
-    pub(crate) count: Count,
     // The amount of which all costs are multiples; of the sites' costs alone until the lanes' are asked for.
     unit: u64,
     knows_lanes: bool,
-    // Of the duals that are evaluated, and of the best.
-    pub(crate) bound: f64,
-    pub(crate) extra: f64,
-    pub(crate) best_bound: f64,
     // Of the smoothed steps.
     pub(crate) is_smooth: bool,
     pub(crate) factor: f64,
@@ -72,18 +59,10 @@ impl<'a> Steps<'a> {
         requires { IsOrderOf order.now inst.now }
         ensures { IfOk result (λ steps. steps ≡ sizes_of inst.now) }
     {
-        let (lo, hi) = inst.count();
-        let count = Count {
-            lo: lo as usize,
-            hi: hi as usize,
-        };
         let customers = customers_of(alloc, inst, order)?;
         let sites = sites_of(alloc, inst)?;
         let slacks = vec![in alloc; 0.0; inst.sites()]?;
-        let taken = vec![in alloc; false; inst.sites()]?;
-        let best_taken = vec![in alloc; false; inst.sites()]?;
-        let shares = vec![in alloc; 0.0; inst.sites()]?;
-        let picks = vec![in alloc; NO_PICK; inst.sites()]?;
+        let progress = Progress::of(alloc, inst)?;
         let plan = vec![in alloc; false; inst.sites()]?;
         let rounded = vec![in alloc; 0; inst.custs()]?;
         Ok(Steps {
@@ -91,18 +70,11 @@ impl<'a> Steps<'a> {
             customers,
             sites,
             slacks,
-            taken,
-            best_taken,
-            shares,
-            picks,
+            progress,
             rounded,
             rounded_extra: 0,
-            count,
             unit: unit_of_sites(inst),
             knows_lanes: false,
-            bound: 0.0,
-            extra: 0.0,
-            best_bound: 0.0,
             is_smooth: false,
             factor: 0.5,
             weight: 0.0,
@@ -152,28 +124,11 @@ impl<'a> Steps<'a> {
         self.factor
     }
 
-    /// The bound at the best duals, in millionths.
-    pub fn bound(&self) -> f64 {
-        self.best_bound
-    }
-
-    /// Whether no plan that costs less than `target` millionths is left, as far as floats show it.
-    pub fn reaches(&self, target: f64) -> bool {
-        target - self.best_bound <= LEAST_LEFT
-    }
-
-    /// The sites that are taken at the best duals, by place.
-    pub fn open(&self) -> &[bool]
-        ensures { length result.now ≡ self.now.sites }
+    /// What the steps have come to.
+    pub fn progress(&self) -> &Progress
+        ensures { result.now ≡ self.now.sites }
     {
-        &self.best_taken
-    }
-
-    /// How often each site is taken by smoothed steps, between 0 and 1, by place.
-    pub fn shares(&self) -> &[f64]
-        ensures { length result.now ≡ self.now.sites }
-    {
-        &self.shares
+        &self.progress
     }
 
     /// Rounds the best duals to whole numbers, of which `scale` are a millionth, and finds the price of the
@@ -185,7 +140,7 @@ impl<'a> Steps<'a> {
         fill_rounded(&self.customers, scale, &mut self.rounded);
         take_rounded(&self.rounded, scale, &mut self.customers);
         self.evaluate(order);
-        self.rounded_extra = nearest_whole(self.extra, scale);
+        self.rounded_extra = nearest_whole(self.progress.last_count_price(), scale);
     }
 
     /// The price of the count at the rounded duals.
@@ -217,16 +172,8 @@ impl<'a> Steps<'a> {
         ensures { self.new ≡ self.old }
     {
         let sum = fill_slacks(order, &mut self.customers, &self.sites, &mut self.slacks);
-        let chosen = choose(
-            &self.sites,
-            &self.slacks,
-            self.count,
-            &mut self.taken,
-            &mut self.picks,
-        );
-        fill_slopes(order, self.inst, &self.taken, &mut self.customers);
-        self.bound = sum + chosen.sum;
-        self.extra = chosen.extra;
+        self.progress.evaluate(sum, &self.sites, &self.slacks);
+        fill_slopes(order, self.inst, self.progress.taken(), &mut self.customers);
     }
 
     // Takes the duals as the best.
@@ -234,15 +181,14 @@ impl<'a> Steps<'a> {
         ensures { self.new ≡ self.old }
     {
         keep_values(&mut self.customers);
-        self.best_taken.copy_from_slice(&self.taken);
-        self.best_bound = self.bound;
+        self.progress.keep();
     }
 
     // Takes the duals as the best where their bound is greater, and answers whether it is.
     pub(crate) fn keep_better(&mut self) -> bool
         ensures { self.new ≡ self.old }
     {
-        if self.bound <= self.best_bound {
+        if !self.progress.is_better() {
             return false;
         }
         self.keep_best();

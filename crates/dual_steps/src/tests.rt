@@ -29,7 +29,7 @@ fn rises_from_many(alloc: Global) -> Result<bool, NoMemory> {
     steps.restart(0.5);
     steps.start_from(&order, &[9_000_000, 9_000_000, 2_000_000], 1);
     steps.volume(&order, 6000000.0, 200, 20);
-    Ok(steps.reaches(6000000.0))
+    Ok(steps.progress().reaches(6000000.0))
 }
 
 // Whether no number is below this one.
@@ -62,7 +62,7 @@ fn rises(
     steps.restart(0.5);
     steps.start_from(&order, &[0, 0, 0], 1);
     steps.volume(&order, cost, 200, 20);
-    let is_near = steps.bound() > 0.95 * cost;
+    let is_near = steps.progress().bound() > 0.95 * cost;
     steps.set_factor(steps.factor());
     steps.polyak(&order, cost, 100);
     steps.project(alloc, &order, cost, 10)?;
@@ -70,9 +70,9 @@ fn rises(
     steps.round(&order, 1);
     Ok(
         is_near
-            && steps.reaches(cost)
+            && steps.progress().reaches(cost)
             && are_at_least(steps.values(), 1_000_000)
-            && are_same(steps.open(), open),
+            && are_same(steps.progress().open(), open),
     )
 }
 

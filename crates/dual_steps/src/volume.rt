@@ -4,9 +4,8 @@ ghost use Rattle.dual_steps.specs.Sizes.{Suits};
 
 use crate::Steps;
 use crate::customer::{
-    FLAT, mixing_weight, restart_smooth, slope_products, smooth_slopes, step_smoothly,
+    FLAT, mixing_weight, restart_smooth, slope_products, smooth_norm, smooth_slopes, step_smoothly,
 };
-use crate::site::smooth_shares;
 use lane_order::LaneOrder;
 
 // The weight of new slopes at first.
@@ -25,7 +24,7 @@ impl Steps<'_> {
         self.recall(order);
         self.begin_smooth();
         for step in 0..steps {
-            if self.reaches(target) || !self.step(order, target, misses) {
+            if self.progress.reaches(target) || !self.step(order, target, misses) {
                 return;
             }
             if step % REVIEW == REVIEW - 1 {
@@ -39,12 +38,12 @@ impl Steps<'_> {
     {
         if !self.is_smooth {
             restart_smooth(&mut self.customers);
-            smooth_shares(&self.taken, &mut self.shares, 1.0);
+            self.progress.smooth(1.0);
             self.is_smooth = true;
         }
         self.weight = FIRST_WEIGHT;
         self.missed = 0;
-        self.mark = self.best_bound;
+        self.mark = self.progress.bound();
     }
 
     // One step; no where no direction is left.
@@ -52,7 +51,7 @@ impl Steps<'_> {
         requires { Suits self.old order.now }
         ensures { self.new ≡ self.old }
     {
-        let norm = self.norm();
+        let norm = smooth_norm(&mut self.customers);
         if norm < FLAT {
             return false;
         }
@@ -62,27 +61,15 @@ impl Steps<'_> {
         let sums = slope_products(&self.customers);
         let weight = mixing_weight(sums, self.weight);
         smooth_slopes(&mut self.customers, weight);
-        smooth_shares(&self.taken, &mut self.shares, weight);
+        self.progress.smooth(weight);
         self.judge(sums.mixed > 0.0, misses);
         true
     }
 
-    // The sum of the squares of the smoothed slopes; where they are near 0 the last slopes are taken.
-    fn norm(&mut self) -> f64
-        ensures { self.new ≡ self.old }
-    {
-        let norm = slope_products(&self.customers).smooth;
-        if norm >= FLAT {
-            return norm;
-        }
-        restart_smooth(&mut self.customers);
-        slope_products(&self.customers).smooth
-    }
-
     // What a whole step aims at.
     fn gap(&self, target: f64) -> f64 {
-        let share = self.best_bound.max(1.0) / 20.0;
-        1.02 * (target - self.best_bound).min(share) + 1.0
+        let share = self.progress.bound().max(1.0) / 20.0;
+        1.02 * (target - self.progress.bound()).min(share) + 1.0
     }
 
     // Lengthens the steps behind a gain, and shortens them behind enough misses.
@@ -106,9 +93,9 @@ impl Steps<'_> {
     fn review(&mut self, target: f64)
         ensures { self.new ≡ self.old }
     {
-        if self.best_bound - self.mark < 0.01 * (target - self.best_bound) {
+        if self.progress.bound() - self.mark < 0.01 * (target - self.progress.bound()) {
             self.weight *= 0.5;
         }
-        self.mark = self.best_bound;
+        self.mark = self.progress.bound();
     }
 }

@@ -2,14 +2,15 @@
 use Rattle.std.proofs.Common.{◌≡◌, ℕ, ◌+◌, ◌-◌, ◌<◌, ◌≤◌, Bool, true, false, cond, List, [], ◌∷◌, ◌++◌, map, length, take, refl, sym, ap, subst, inl, inr, ◌⊎◌, ◌∙◌, arith}
 use Rattle.std.specs.Prelude.{All, filter, ◌==◌, ◌||◌}
 use Rattle.std.specs.List.{range_with_len}
-use Rattle.std.proofs.lemmas.List.{append-nil, map-id, length_push, length-take, length-set, take_all, take-append-le, get_or-set_same, get_or-set_other}
+use Rattle.std.proofs.lemmas.List.{append-nil, length_push, length-take, length-set, take_all, take-append-le, get_or-set_same, get_or-set_other}
 use Rattle.std.proofs.lemmas.List.Elements.{All-head, All-tail, filter-append, All-filter, All-take, All-weaker}
 use Rattle.std.proofs.lemmas.List.Folds.{list_any-append, list_any_none}
 use Rattle.std.proofs.lemmas.Bool.{cases_eq, ne_eqb, eq-eqb, or_left, or_right, both_ways, cases_Bool, false_from_ne_true}
 use Rattle.dual_ascent.proofs.Ceiling.{places_below}
-use Rattle.std.proofs.lemmas.List.FromFn.{map-range_with_len_more, length-range_with_len}
+use Rattle.std.proofs.lemmas.List.FromFn.{length-range_with_len}
 use Rattle.std.proofs.lemmas.List.Sums.{length-filter, count_by-le-length}
 use Rattle.std.proofs.Math.ListN.{set}
+use Rattle.location_terms.proofs.Places.{places_more}
 use Rattle.plan_search.specs.Packed.{is_among}
 use Rattle.plan_search.specs.Flags.{is_set, flagged, AreFlags}
 use Rattle.plan_search.proofs.Among.{among-contains, contains-among, Contains-filter, passed, place-contained, of_places}
@@ -26,12 +27,6 @@ passing p n = filter p (range_with_len 0 n)
 
 pub passing_same : (p q : ℕ → Bool) (n : ℕ) → ((i : ℕ) → i < n → p i ≡ q i) → passing p n ≡ passing q n
 passing_same p q n same = filter_same p q (range_with_len 0 n) (of_places (λ i. p i ≡ q i) n same)
-
--- one place more
-pub places_more : (n : ℕ) → range_with_len 0 (n + 1) ≡ range_with_len 0 n ++ n ∷ []
-places_more n =
-    let same : (k : ℕ) → map (λ i. i) (range_with_len 0 k) ≡ range_with_len 0 k = λ k. map-id (range_with_len 0 k) in
-    sym (same (n + 1)) ∙ map-range_with_len_more (λ i. i) 0 n n (omega arith) ∙ ap (λ (ys : List ℕ). ys ++ n ∷ []) (same n)
 
 passing_more : (p : ℕ → Bool) (n : ℕ) → passing p (n + 1) ≡ passing p n ++ cond (p n) (n ∷ []) []
 passing_more p n = ap (filter p) (places_more n) ∙ filter-append p (range_with_len 0 n) (n ∷ [])

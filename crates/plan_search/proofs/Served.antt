@@ -12,7 +12,7 @@ use Rattle.std.proofs.lemmas.Option.{same_Some}
 use Rattle.location_terms.specs.Instance.{Instance, site_at, customer_at}
 use Rattle.plan_search.specs.Packing.{server_among, ArePairs, AreServers}
 use Rattle.plan_search.proofs.Among.{Contains-first, Contains-later}
-use Rattle.plan_search.proofs.Flagging.{places_more}
+use Rattle.location_terms.proofs.Places.{places_more}
 
 -- the services of the first customers
 abbrev pub first_services : Instance → List (ℕ × ℕ) → ℕ → List (ℕ × ℕ)

@@ -44,8 +44,8 @@ fn choose(boxed: &PreparedBox, hint: &[SiteId], flags: &mut [bool])
     add_opened(boxed, flags);
 }
 
-// How many sites are opened in the box.
-fn opened_count(boxed: &PreparedBox) -> usize
+/// How many sites are opened in the box.
+pub fn opened_count(boxed: &PreparedBox) -> usize
     ensures exact { result ≡ length (opened_places boxed.now.instance boxed.now.path) }
     ensures small { result ≤ length boxed.now.instance.sites }
     ensures valid { IsValid boxed.now.instance }

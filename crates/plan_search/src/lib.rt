@@ -18,6 +18,7 @@ mod serving;
 mod turns;
 
 pub use caps::has_no_caps;
+pub use chosen::opened_count;
 pub use known::is_path_of;
 pub use laws::packed_plans;
 pub use local::LocalSearch;

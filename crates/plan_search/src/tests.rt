@@ -112,6 +112,17 @@ fn packed(
     Ok(Some(plan))
 }
 
+// Whether so many sites are opened in the box of these steps, which name sites of the instance.
+fn are_opened(alloc: Global, inst: &Instance, steps: &[Decision], count: usize) -> bool {
+    match path(alloc, steps) {
+        Err(_) => false,
+        Ok(path) => match PreparedBox::of(alloc, inst, &path) {
+            Err(_) => false,
+            Ok(boxed) => opened_count(&boxed) == count,
+        },
+    }
+}
+
 fn is_packed(
     alloc: Global,
     inst: &Instance,
@@ -239,6 +250,7 @@ fn settled(alloc: Global, site: usize, status: SiteStatus) -> Result<Instance, N
 fn keeps_to_statuses(rt: HostRuntime) -> Result<(), Fail> {
     let alloc = rt.alloc();
     let inst = settled(alloc, 1, SiteStatus::MustOpen)?;
+    assert!(rt; are_opened(alloc, &inst, &[Decision::Opened(SiteId::new(1))], 2));
     assert!(rt; is_packed(alloc, &inst, &[], &[1], &[1, 2], &[1, 2, 1]));
     let inst = settled(alloc, 0, SiteStatus::MustClose)?;
     assert!(rt; is_none_packed(alloc, &inst, &[], &[1, 2]));

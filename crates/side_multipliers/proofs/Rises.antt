@@ -1,5 +1,5 @@
 -- What rises and rounds leave of the duals at work.
-use Rattle.std.proofs.Common.{◌≡◌, ℕ, ◌≤◌, refl, sym, subst, ◌∙◌, arith, Bool, true, false, ℤ, ◌≤ℤ◌}
+use Rattle.std.proofs.Common.{◌≡◌, ℕ, refl, sym, subst, ◌∙◌, arith, Bool, true, false, ℤ, ◌≤ℤ◌}
 use Rattle.std.proofs.lemmas.Int.{by_lt_z, ints}
 use Rattle.location_terms.specs.Instance.{Instance}
 use Rattle.location_terms.specs.Box.{Path}

@@ -10,9 +10,7 @@ array_sizes a = record { sites = length a.slacks.items; customers = length a.cus
 pub record AreWhole (a : Inside) : Type 0 where
   pub sites : length a.sites.items ≡ length a.slacks.items
   pub purses : length a.purses.items ≡ length a.slacks.items
-  pub taken : length a.taken.items ≡ length a.slacks.items
-  pub best_taken : length a.best_taken.items ≡ length a.slacks.items
-  pub shares : length a.shares.items ≡ length a.slacks.items
+  pub progress : a.progress ≡ length a.slacks.items
   pub best_prices : length a.best_prices.items ≡ length a.slacks.items
   pub rounded_prices : length a.rounded_prices.items ≡ length a.slacks.items
   pub demands : length a.demands.items ≡ length a.customers.items

@@ -10,7 +10,7 @@ use crate::payments::{
     Demand, EMPTY_PURSE, NO_PAYMENT, Payment, Purse, demands_of, fill_rooms, fill_slopes, lay_out,
     pay_all,
 };
-use dual_steps::choosing::{Count, NO_PICK, Pick, choose};
+use dual_steps::Progress;
 use dual_steps::customer::{Customer, customer_between, keep_values};
 use dual_steps::rounding::{fill_rounded, nearest_whole, take_values};
 use dual_steps::site::{Site, take_states};
@@ -25,9 +25,6 @@ use std::num::nearest_u64_to_f64;
 // No dual rises above this.
 const GREATEST_VALUE: f64 = 1.0e15;
 
-// How near to the cost a bound has to come: costs are whole millionths.
-const LEAST_LEFT: f64 = 0.9999;
-
 /// Duals of the customers, by floats, with the prices of capacities and of the number of open sites that
 /// suit them best, and the arrays in which they take steps.
 #[derive(Drop)]
@@ -39,23 +36,12 @@ pub struct CapSteps {
     purses: Vec<Purse>,
     payments: Vec<Payment>,
     lanes: BoxLanes,
-    // The sites that are taken at the duals that are evaluated, and at the best.
-    pub(crate) taken: Vec<bool>,
-    best_taken: Vec<bool>,
-    // The share of evaluations that take each site, smoothed.
-    pub(crate) shares: Vec<f64>,
+    pub(crate) progress: Progress,
     // The prices of the capacities at the best duals.
     best_prices: Vec<f64>,
-    picks: Vec<Pick>,
     rounded: Vec<i64>,
     rounded_prices: Vec<u64>,
     rounded_extra: i64,
-    count: Count,
-    // Of the duals that are evaluated, and of the best.
-    pub(crate) bound: f64,
-    extra: f64,
-    pub(crate) best_bound: f64,
-    best_extra: f64,
     // Of the smoothed steps.
     pub(crate) is_smooth: bool,
     pub(crate) gait: Gait,
@@ -78,11 +64,6 @@ impl CapSteps {
     pub fn of(alloc: Global, inst: &Instance, order: &LaneOrder) -> Result<CapSteps, NoMemory>
         ensures { IfOk result (λ steps. steps ≡ sizes_of inst.now) }
     {
-        let (lo, hi) = inst.count();
-        let count = Count {
-            lo: lo as usize,
-            hi: hi as usize,
-        };
         let customers = vec![in alloc; customer_between(0.0, GREATEST_VALUE); inst.custs()]?;
         let sites = sites_of(alloc, inst)?;
         let slacks = vec![in alloc; 0.0; inst.sites()]?;
@@ -90,11 +71,8 @@ impl CapSteps {
         let purses = purses_of(alloc, inst)?;
         let lanes = BoxLanes::of(alloc, order)?;
         let payments = vec![in alloc; NO_PAYMENT; lanes.room()]?;
-        let taken = vec![in alloc; false; inst.sites()]?;
-        let best_taken = vec![in alloc; false; inst.sites()]?;
-        let shares = vec![in alloc; 0.0; inst.sites()]?;
+        let progress = Progress::of(alloc, inst)?;
         let best_prices = vec![in alloc; 0.0; inst.sites()]?;
-        let picks = vec![in alloc; NO_PICK; inst.sites()]?;
         let rounded = vec![in alloc; 0; inst.custs()]?;
         let rounded_prices = vec![in alloc; 0; inst.sites()]?;
         Ok(CapSteps {
@@ -105,19 +83,11 @@ impl CapSteps {
             purses,
             payments,
             lanes,
-            taken,
-            best_taken,
-            shares,
+            progress,
             best_prices,
-            picks,
             rounded,
             rounded_prices,
             rounded_extra: 0,
-            count,
-            bound: 0.0,
-            extra: 0.0,
-            best_bound: 0.0,
-            best_extra: 0.0,
             is_smooth: false,
             gait: Gait::of(AT_ROOT),
         })
@@ -153,28 +123,11 @@ impl CapSteps {
         self.gait = Gait::of(pace);
     }
 
-    /// The bound at the best duals, in millionths.
-    pub fn bound(&self) -> f64 {
-        self.best_bound
-    }
-
-    /// Whether no plan that costs less than `target` millionths is left, as far as floats show it.
-    pub fn reaches(&self, target: f64) -> bool {
-        target - self.best_bound <= LEAST_LEFT
-    }
-
-    /// The sites that are taken at the best duals, by place.
-    pub fn open(&self) -> &[bool]
-        ensures { length result.now ≡ self.now.sites }
+    /// What the steps have come to.
+    pub fn progress(&self) -> &Progress
+        ensures { result.now ≡ self.now.sites }
     {
-        &self.best_taken
-    }
-
-    /// How often each site is taken by smoothed steps, between 0 and 1, by place.
-    pub fn shares(&self) -> &[f64]
-        ensures { length result.now ≡ self.now.sites }
-    {
-        &self.shares
+        &self.progress
     }
 
     /// Rounds the best duals and their prices to whole numbers, of which `scale` are a millionth.
@@ -183,7 +136,7 @@ impl CapSteps {
     {
         fill_rounded(&self.customers, scale, &mut self.rounded);
         fill_prices(&self.best_prices, scale, &mut self.rounded_prices);
-        self.rounded_extra = nearest_whole(self.best_extra, scale);
+        self.rounded_extra = nearest_whole(self.progress.count_price(), scale);
     }
 
     /// The best duals, as they were rounded last, by the places of the customers.
@@ -223,21 +176,13 @@ impl CapSteps {
             &mut self.payments,
             &mut self.slacks,
         );
-        let chosen = choose(
-            &self.sites,
-            &self.slacks,
-            self.count,
-            &mut self.taken,
-            &mut self.picks,
-        );
+        self.progress.evaluate(sum, &self.sites, &self.slacks);
         fill_slopes(
             &self.purses,
             &self.payments,
-            &self.taken,
+            self.progress.taken(),
             &mut self.customers,
         );
-        self.bound = sum + chosen.sum;
-        self.extra = chosen.extra;
     }
 
     // Takes the duals as the best.
@@ -246,20 +191,7 @@ impl CapSteps {
     {
         keep_values(&mut self.customers);
         keep_prices(&self.purses, &mut self.best_prices);
-        self.best_taken.copy_from_slice(&self.taken);
-        self.best_bound = self.bound;
-        self.best_extra = self.extra;
-    }
-
-    // Takes the duals as the best where their bound is greater, and answers whether it is.
-    pub(crate) fn keep_better(&mut self) -> bool
-        ensures { self.new ≡ self.old }
-    {
-        if self.bound <= self.best_bound {
-            return false;
-        }
-        self.keep_best();
-        true
+        self.progress.keep();
     }
 }
 

@@ -3,7 +3,7 @@
 //! is loaded; amounts are whole numbers, kept as floats.
 ghost use Rattle.std.specs.Prelude.{◌≡◌, length};
 
-use crate::room_lanes::{Guest, LaneUse, RoomLane, lanes_of, site_of};
+use crate::room_lanes::{Guest, LaneUse, RoomLane, lane_count, lanes_of, site_of};
 use crate::rooms::{Move, NO_MOVE, Room, empty_rooms, level_at, load, price_at};
 
 // How many lanes may be looked at, about, and how often flows may be shifted whatever the size.
@@ -161,7 +161,7 @@ pub(crate) fn balance(
     ensures rooms { length rooms.new ≡ length rooms.old }
     ensures flows { length flows.new ≡ length flows.old }
 {
-    for _turn in 0..MAX_LOOKS / flows.len().max(1) + LEAST_TURNS {
+    for _turn in 0..MAX_LOOKS / lane_count(guests).max(1) + LEAST_TURNS {
         if !begin_ways(rooms) {
             return true;
         }

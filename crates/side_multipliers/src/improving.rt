@@ -82,7 +82,7 @@ fn round(
     ensures no_worse { OnOk result (IsNoWorse boxed.now.instance boxed.now.path best.old best.new) }
 {
     let scale = best.duals().q();
-    steps.volume(target(goal, steps.bound()), ROUND);
+    steps.volume(target(goal, steps.progress().bound()), ROUND);
     let proposed = proposal(alloc, steps, scale)?;
     take(boxed, order, best, &proposed);
     Ok(())

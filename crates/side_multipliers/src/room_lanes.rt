@@ -130,6 +130,14 @@ fn put_own(own: &[PlacedLane], start: usize, lanes: &mut [RoomLane])
     }
 }
 
+/// How many lanes the customers have. They are the first of all that there is room for.
+pub(crate) fn lane_count(guests: &[Guest]) -> usize {
+    match guests.last() {
+        None => 0,
+        Some(guest) => guest.end,
+    }
+}
+
 /// The customer's lanes.
 pub(crate) fn lanes_of(lanes: &[RoomLane], guest: Guest) -> &[RoomLane] {
     lanes.get(guest.start..guest.end).unwrap_or(&[])

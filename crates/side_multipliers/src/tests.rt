@@ -32,12 +32,13 @@ fn rises(alloc: Global, inst: &Instance) -> Result<bool, NoMemory> {
     let cost = 7504750000.0;
     steps.volume(cost, 300);
     steps.round(1_000);
+    let found = steps.progress();
     Ok(
-        steps.bound() > 2300000000.0
-            && steps.bound() < 2404000000.0
-            && !steps.reaches(cost)
-            && steps.open().len() == 2
-            && steps.shares().len() == 2
+        found.bound() > 2300000000.0
+            && found.bound() < 2404000000.0
+            && !found.reaches(cost)
+            && found.open().len() == 2
+            && found.shares().len() == 2
             && steps.values().len() == 2
             && steps.prices() != [0, 0].as_slice()
             && steps.count_price() == 0,

@@ -8,7 +8,9 @@ use crate::flows::{balance, find_levels, find_prices, reseat, seat_all};
 use crate::links::{LanePlace, lack_of_all, next_link};
 use crate::payments::{Demand, demands_of};
 use crate::refusing::leave_out_unfit;
-use crate::room_lanes::{Guest, NO_GUEST, NO_LANE, RoomLane, lanes_of, site_of, take_lanes};
+use crate::room_lanes::{
+    Guest, NO_GUEST, NO_LANE, RoomLane, lane_count, lanes_of, site_of, take_lanes,
+};
 use crate::rooms::{NO_ROOM, Room, fill_rooms, open_rooms, opened_cost};
 use crate::trials::{NO_TRIAL, Trial, greatest_flow, promise, put_back, set_aside, trials};
 use dual_steps::rounding::nearest_whole;
@@ -203,7 +205,7 @@ impl Transport {
     {
         let tried = trials(&self.guests, &self.flows);
         self.saved_rooms.copy_from_slice(&self.rooms);
-        self.saved_flows.copy_from_slice(&self.flows);
+        copy_first(lane_count(&self.guests), &self.flows, &mut self.saved_flows);
         let mut best = NO_TRIAL;
         let mut greatest = -1.0;
         for trial in tried {
@@ -256,7 +258,7 @@ impl Transport {
         };
         put_back(guest, &mut self.lanes);
         self.rooms.copy_from_slice(&self.saved_rooms);
-        self.flows.copy_from_slice(&self.saved_flows);
+        copy_first(lane_count(&self.guests), &self.saved_flows, &mut self.flows);
         self.bound = before;
         self.is_possible = true;
         gain
@@ -276,6 +278,15 @@ fn fill_suppliers(guests: &[Guest], lanes: &[RoomLane], flows: &[f64], suppliers
 {
     for j in 0..suppliers.len().min(guests.len()) {
         suppliers[j] = site_of(lanes, greatest_flow(guests[j], flows));
+    }
+}
+
+// Copies so many flows from the first on: those of the box at work.
+fn copy_first(count: usize, from: &[f64], to: &mut [f64])
+    ensures { length to.new ≡ length to.old }
+{
+    for k in 0..count.min(from.len()).min(to.len()) {
+        to[k] = from[k];
     }
 }
 

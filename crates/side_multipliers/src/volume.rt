@@ -3,9 +3,8 @@ ghost use Rattle.std.specs.Prelude.{◌≡◌, length};
 
 use crate::CapSteps;
 use dual_steps::customer::{
-    FLAT, mixing_weight, restart_smooth, slope_products, smooth_slopes, step_smoothly,
+    FLAT, mixing_weight, restart_smooth, slope_products, smooth_norm, smooth_slopes, step_smoothly,
 };
-use dual_steps::site::smooth_shares;
 
 impl CapSteps {
     /// Takes smoothed steps towards a bound of `target` millionths, up to so many.
@@ -14,7 +13,7 @@ impl CapSteps {
     {
         self.begin_smooth();
         for _step in 0..steps {
-            if self.reaches(target) || !self.step(target) {
+            if self.progress.reaches(target) || !self.step(target) {
                 return;
             }
         }
@@ -25,8 +24,8 @@ impl CapSteps {
     {
         if !self.is_smooth {
             restart_smooth(&mut self.customers);
-            smooth_shares(&self.taken, &mut self.shares, 1.0);
-            self.gait = self.gait.marked(self.best_bound);
+            self.progress.smooth(1.0);
+            self.gait = self.gait.marked(self.progress.bound());
             self.is_smooth = true;
         }
     }
@@ -35,7 +34,7 @@ impl CapSteps {
     fn step(&mut self, target: f64) -> bool
         ensures { self.new ≡ self.old }
     {
-        let norm = self.norm();
+        let norm = smooth_norm(&mut self.customers);
         if norm < FLAT || self.gait.is_spent() {
             return false;
         }
@@ -45,26 +44,19 @@ impl CapSteps {
         let sums = slope_products(&self.customers);
         let weight = mixing_weight(sums, self.gait.weight);
         smooth_slopes(&mut self.customers, weight);
-        smooth_shares(&self.taken, &mut self.shares, weight);
-        let gained = self.keep_better();
-        self.gait = self.gait.after(gained, sums.mixed >= 0.0, self.best_bound);
-        true
-    }
-
-    // The sum of the squares of the smoothed slopes; where they are near 0 the last slopes are taken.
-    fn norm(&mut self) -> f64
-        ensures { self.new ≡ self.old }
-    {
-        let norm = slope_products(&self.customers).smooth;
-        if norm >= FLAT {
-            return norm;
+        self.progress.smooth(weight);
+        let gained = self.progress.is_better();
+        if gained {
+            self.keep_best();
         }
-        restart_smooth(&mut self.customers);
-        slope_products(&self.customers).smooth
+        self.gait = self
+            .gait
+            .after(gained, sums.mixed >= 0.0, self.progress.bound());
+        true
     }
 
     // What a whole step aims at.
     fn gap(&self, target: f64) -> f64 {
-        target - self.best_bound + 0.0005 * target.abs()
+        target - self.progress.bound() + 0.0005 * target.abs()
     }
 }

@@ -13,7 +13,7 @@ use Rattle.plan_search.specs.InBox.{IsPathOf, IsNoWorse}
 use Rattle.plan_search.specs.Packed.{packed}
 use Rattle.branch_tree.specs.declared.split.Split.{Split}
 use Rattle.tree_search.specs.Made.{IsMadeLeaf, IsOpenBox}
-use Rattle.tree_search.specs.Rays.{IsRayless}
+use Rattle.tree_search.specs.Rays.{IsRayIn, IsRayless}
 use Rattle.tree_search.specs.Making.{Making, LowersNone, IsMaking, StaysMaking}
 use Rattle.tree_search.specs.Answer.{cost_in}
 use Rattle.tree_search.specs.Working.{ClosesWith, IsSoughtAt, IsSettled, IsOpenSplit, IsPressed, IsVerdict, IsWorked}
@@ -103,10 +103,10 @@ worked_in b J I path plan may_split old d split is same worked =
     subst (λ x. IsWorked x plan may_split old path d split) same at
 
 -- a box that a ray closes
-pub ray_worked : (I : Instance) (path : Path) (plan : Option Plan) (may_split : Bool) (old d : Duals) → d.q ≡ 0 → ((old_path : Path) (x : Duals) → IsMadeLeaf I old_path x path d) → IsWorked I plan may_split old path d None
-ray_worked I path plan may_split old d ray made = record {
-  made = λ old_path lowers. made old_path old;
-  sought = λ scaled. absurd (omega (arith, scaled, ray));
-  whole = λ none. inl (inl (ray, (made [] old).ray ray));
+pub ray_worked : (I : Instance) (path : Path) (plan : Option Plan) (may_split : Bool) (old d : Duals) → IsRayIn I path d → IsWorked I plan may_split old path d None
+ray_worked I path plan may_split old d ray = record {
+  made = λ old_path lowers. ray.made old_path old;
+  sought = λ scaled. absurd (omega (arith, scaled, ray.scale));
+  whole = λ none. inl (inl (ray.scale, (ray.made [] old).ray ray.scale));
   halved = tt;
 }

@@ -1,12 +1,12 @@
 -- When counting alone shows a box to be empty: a customer without an allowed lane, an opened site whose forced customers demand more
 -- than it holds, and too many opened or too few possible sites. Where none of these is so, no simple ray closes the box.
-use Rattle.std.specs.Prelude.{if◌then◌else◌, ℕ, ◌==◌, ◌<◌, ◌≤◌, ◌&&◌, not, Bool, IsTrue, length, filter, map, replicate, slice_set, sum_by, ℤ, pos}
+use Rattle.std.specs.Prelude.{if◌then◌else◌, ◌≡◌, ℕ, ◌==◌, ◌<◌, ◌≤◌, ◌&&◌, not, Bool, IsTrue, length, filter, map, replicate, slice_set, sum_by, ℤ, pos}
 use Rattle.location_terms.specs.Instance.{Instance, site_at, customer_at}
 use Rattle.location_terms.specs.Bound.{Duals}
 use Rattle.location_terms.specs.Box.{Path, is_allowed, is_opened, is_closed, holds_demand}
 use Rattle.dual_ascent.specs.Levels.{site_places, customer_places, servers}
 use Rattle.plan_search.specs.Packed.{opened_places}
-use Rattle.tree_search.specs.Made.{AreServed}
+use Rattle.tree_search.specs.Made.{AreServed, IsMadeLeaf}
 
 -- the only allowed lane of the customer is from the site, both by place
 abbrev pub is_forced : Instance → Path → ℕ → ℕ → Bool
@@ -32,6 +32,11 @@ count_ray I nu = record { q = 0; nu = nu; v = replicate (length I.customers) (po
 -- how many sites may be open
 abbrev pub possible_count : Instance → Path → ℕ
 possible_count I path = length (filter (λ i. not (is_closed path (site_at I i))) (site_places I))
+
+-- a ray of the box: duals of scale 0 that are a leaf made in it, whichever leaf they replace
+pub record IsRayIn (I : Instance) (path : Path) (d : Duals) : Type 0 where
+  pub scale : d.q ≡ 0
+  pub made : (old_path : Path) (old : Duals) → IsMadeLeaf I old_path old path d
 
 -- counting alone doesn't show the box to be empty
 pub record IsRayless (I : Instance) (path : Path) : Type 0 where

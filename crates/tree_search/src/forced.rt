@@ -1,11 +1,9 @@
 //! Customers that are forced to one site, and the ray of a site that can't hold them.
 ghost use Rattle.std.specs.Prelude.{◌≡◌, ℕ, ◌<◌, pos, slice_index, if◌then◌else◌, Some, IfNone, IfOk, IfSome, IsFalse, IsTrue, length};
 ghost use Rattle.location_terms.specs.Instance.{site_at, customer_at};
-ghost use Rattle.location_terms.specs.Box.{Path as Decisions, holds_demand, is_opened};
-ghost use Rattle.location_terms.specs.Bound.{Duals as Prices};
+ghost use Rattle.location_terms.specs.Box.{holds_demand, is_opened};
 ghost use Rattle.lane_order.specs.Order.{IsOrderOf};
-ghost use Rattle.tree_search.specs.Made.{IsMadeLeaf};
-ghost use Rattle.tree_search.specs.Rays.{is_forced, forced_demand, forced_ray};
+ghost use Rattle.tree_search.specs.Rays.{is_forced, forced_demand, forced_ray, IsRayIn};
 ghost use Rattle.tree_search.specs.Service.{only_site};
 
 use crate::serving::{Service, service_of};
@@ -23,9 +21,7 @@ pub(crate) fn full_ray(
     order: &LaneOrder,
 ) -> Result<Option<Duals>, NoMemory>
     requires order { IsOrderOf order.now boxed.now.instance }
-    ensures ray { IfOk result (λ ray. IfSome ray (λ d. d.q ≡ 0)) }
-    ensures made { IfOk result (λ ray. IfSome ray (λ d. (old_path : Decisions) → (old : Prices) →
-        IsMadeLeaf boxed.now.instance old_path old boxed.now.path d)) }
+    ensures ray { IfOk result (λ ray. IfSome ray (IsRayIn boxed.now.instance boxed.now.path)) }
     ensures held { IfOk result (λ ray. IfNone ray ((i : ℕ) → i < length boxed.now.instance.sites →
         IsTrue (is_opened boxed.now.path (site_at boxed.now.instance i)) →
         IsTrue (holds_demand (site_at boxed.now.instance i).cap (forced_demand boxed.now.instance boxed.now.path i)))) }

@@ -8,7 +8,7 @@ ghost use Rattle.plan_search.specs.InBox.{IsPathOf};
 use crate::incumbent::Incumbent;
 use crate::prices::{Prices, widen};
 use crate::tried::Tried;
-use dual_steps::Steps;
+use dual_steps::{Progress, Steps};
 use dual_value::{Duals, PreparedBox};
 use instance_store::{Instance, NoMemory};
 use lane_order::LaneOrder;
@@ -163,7 +163,7 @@ impl<'a> Helpers<'a> {
     pub(crate) fn shares(&self) -> &[f64]
         ensures { length result.now ≡ self.now.sites }
     {
-        shares_of(&self.steps, &self.prices)
+        progress_of(&self.steps, &self.prices).shares()
     }
 
     /// The best duals of the steps, rounded to parts of a millionth, `scale` of them. It fails only where
@@ -203,9 +203,9 @@ impl<'a> Helpers<'a> {
             Hint::Tight => flag_tight(slacks, &mut self.flags),
             Hint::Taken => self
                 .flags
-                .copy_from_slice(open_sites(&self.steps, &self.prices)),
+                .copy_from_slice(progress_of(&self.steps, &self.prices).open()),
             Hint::Shared(least) => flag_shared(
-                shares_of(&self.steps, &self.prices),
+                progress_of(&self.steps, &self.prices).shares(),
                 least,
                 &mut self.flags,
             ),
@@ -244,23 +244,14 @@ fn target_of(cost: Option<u64>, bound: f64) -> f64 {
     }
 }
 
-fn shares_of<'s>(steps: &'s Steps<'_>, prices: &'s Option<Prices>) -> &'s [f64]
+// What the steps have come to, those of prices where there are any.
+fn progress_of<'s>(steps: &'s Steps<'_>, prices: &'s Option<Prices>) -> &'s Progress
     requires { IfSome prices.now (λ p. p ≡ steps.now) }
-    ensures { length result.now ≡ steps.now.sites }
+    ensures { result.now ≡ steps.now.sites }
 {
     match prices {
-        None => steps.shares(),
-        Some(prices) => prices.shares(),
-    }
-}
-
-fn open_sites<'s>(steps: &'s Steps<'_>, prices: &'s Option<Prices>) -> &'s [bool]
-    requires { IfSome prices.now (λ p. p ≡ steps.now) }
-    ensures { length result.now ≡ steps.now.sites }
-{
-    match prices {
-        None => steps.open(),
-        Some(prices) => prices.open(),
+        None => steps.progress(),
+        Some(prices) => prices.progress(),
     }
 }
 
@@ -279,7 +270,7 @@ fn rounded_steps(
     steps.round(order, scale);
     let mut values = vec![in alloc; 0; steps.values().len()]?;
     widen(steps.values(), &mut values);
-    let prices = vec![in alloc; 0; steps.shares().len()]?;
+    let prices = vec![in alloc; 0; steps.progress().shares().len()]?;
     let extra = i128::from(steps.count_price());
     Ok(Duals::from_lists(scale, extra, values, prices))
 }

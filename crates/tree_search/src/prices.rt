@@ -3,6 +3,7 @@ ghost use Rattle.std.specs.Prelude.{◌≡◌, IfOk, length};
 ghost use Rattle.lane_order.specs.Order.{IsOrderOf};
 ghost use Rattle.dual_steps.specs.Sizes.{sizes_of};
 
+use dual_steps::Progress;
 use dual_value::{Duals, PreparedBox, SiteState};
 use instance_store::{Instance, NoMemory};
 use lane_order::LaneOrder;
@@ -73,7 +74,7 @@ impl Prices {
         if self.is_settled {
             self.rooms.bound()
         } else {
-            self.caps.bound()
+            self.caps.progress().bound()
         }
     }
 
@@ -140,18 +141,11 @@ impl Prices {
         Ok(Duals::from_lists(scale, extra, values, prices))
     }
 
-    /// The sites that are taken at the best duals, by place.
-    pub(crate) fn open(&self) -> &[bool]
-        ensures { length result.now ≡ self.now.sites }
+    /// What the steps in boxes with free sites have come to.
+    pub(crate) fn progress(&self) -> &Progress
+        ensures { result.now ≡ self.now.sites }
     {
-        self.caps.open()
-    }
-
-    /// How often each site is taken by smoothed steps, between 0 and 1, by place.
-    pub(crate) fn shares(&self) -> &[f64]
-        ensures { length result.now ≡ self.now.sites }
-    {
-        self.caps.shares()
+        self.caps.progress()
     }
 }
 

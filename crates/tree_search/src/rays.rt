@@ -1,14 +1,13 @@
 //! Rays: duals of scale 0 that show a box to be empty by counting alone.
 ghost use Rattle.std.specs.Prelude.{◌≡◌, ◌≢◌, ◌↔◌, ℕ, ◌<◌, ◌≤◌, not, unsigned_abs, slice_index, All, IfOk, IfNone, IfSome, IsTrue, None, length};
 ghost use Rattle.location_terms.specs.Instance.{site_at};
-ghost use Rattle.location_terms.specs.Box.{Path as Decisions, is_closed};
-ghost use Rattle.location_terms.specs.Bound.{Duals as Prices};
+ghost use Rattle.location_terms.specs.Box.{is_closed};
 ghost use Rattle.location_terms.specs.declared.limits.TheConstants.{MAX_MULTIPLIER, MAX_VALUE};
 ghost use Rattle.lane_order.specs.Order.{IsOrderOf};
 ghost use Rattle.dual_ascent.specs.Levels.{servers};
 ghost use Rattle.plan_search.specs.Packed.{opened_places};
-ghost use Rattle.tree_search.specs.Made.{AreServed, IsMadeLeaf};
-ghost use Rattle.tree_search.specs.Rays.{possible_count, count_ray, IsRayless};
+ghost use Rattle.tree_search.specs.Made.{AreServed};
+ghost use Rattle.tree_search.specs.Rays.{possible_count, count_ray, IsRayIn, IsRayless};
 ghost use Rattle.tree_search.specs.declared.serving.Service.TheVariants.{Nowhere};
 
 use crate::forced::full_ray;
@@ -16,6 +15,7 @@ use crate::serving::{Service, service_of};
 use dual_value::{Duals, PreparedBox, SiteState, bound, closes};
 use instance_store::{Instance, NoMemory};
 use lane_order::LaneOrder;
+use plan_search::opened_count;
 use std::alloc::Global;
 
 /// A ray that closes the box, where counting alone shows it to be empty: a customer has no allowed lane,
@@ -28,9 +28,7 @@ pub(crate) fn ray(
     order: &LaneOrder,
 ) -> Result<Option<Duals>, NoMemory>
     requires order { IsOrderOf order.now boxed.now.instance }
-    ensures ray { IfOk result (λ ray. IfSome ray (λ d. d.q ≡ 0)) }
-    ensures made { IfOk result (λ ray. IfSome ray (λ d. (old_path : Decisions) → (old : Prices) →
-        IsMadeLeaf boxed.now.instance old_path old boxed.now.path d)) }
+    ensures ray { IfOk result (λ ray. IfSome ray (IsRayIn boxed.now.instance boxed.now.path)) }
     ensures none { IfOk result (λ ray. IfNone ray (IsRayless boxed.now.instance boxed.now.path)) }
 {
     if let Some(ray) = simple_ray(alloc, boxed, order)? {
@@ -49,9 +47,7 @@ fn simple_ray(
     order: &LaneOrder,
 ) -> Result<Option<Duals>, NoMemory>
     requires order { IsOrderOf order.now boxed.now.instance }
-    ensures ray { IfOk result (λ ray. IfSome ray (λ d. d.q ≡ 0)) }
-    ensures made { IfOk result (λ ray. IfSome ray (λ d. (old_path : Decisions) → (old : Prices) →
-        IsMadeLeaf boxed.now.instance old_path old boxed.now.path d)) }
+    ensures ray { IfOk result (λ ray. IfSome ray (IsRayIn boxed.now.instance boxed.now.path)) }
     ensures none { IfOk result (λ ray. IfNone ray (IsRayless boxed.now.instance boxed.now.path)) }
 {
     if let Some(cust) = first_unserved(boxed, order) {
@@ -96,9 +92,7 @@ pub(crate) fn unserved_ray(
 ) -> Result<Duals, NoMemory>
     requires customer { cust < length boxed.now.instance.customers }
     requires unserved { length (servers boxed.now.instance boxed.now.path cust) ≡ 0 }
-    ensures ray { IfOk result (λ d. d.q ≡ 0) }
-    ensures made { IfOk result (λ d. (old_path : Decisions) → (old : Prices) →
-        IsMadeLeaf boxed.now.instance old_path old boxed.now.path d) }
+    ensures { IfOk result (IsRayIn boxed.now.instance boxed.now.path) }
 {
     let mut ray = Duals::zeros(alloc, boxed.instance(), 0)?;
     ray.set_v(cust, 1);
@@ -108,9 +102,7 @@ pub(crate) fn unserved_ray(
 // The ray of a box in which more sites are opened, or fewer possible, than a plan may open: the price on
 // the number of sites is 1 or -1.
 fn count_ray(alloc: Global, boxed: &PreparedBox<'_>) -> Result<Option<Duals>, NoMemory>
-    ensures ray { IfOk result (λ ray. IfSome ray (λ d. d.q ≡ 0)) }
-    ensures made { IfOk result (λ ray. IfSome ray (λ d. (old_path : Decisions) → (old : Prices) →
-        IsMadeLeaf boxed.now.instance old_path old boxed.now.path d)) }
+    ensures ray { IfOk result (λ ray. IfSome ray (IsRayIn boxed.now.instance boxed.now.path)) }
     ensures few { IfOk result (λ ray. IfNone ray (length (opened_places boxed.now.instance boxed.now.path) ≤ boxed.now.instance.hi)) }
     ensures enough { IfOk result (λ ray. IfNone ray (boxed.now.instance.lo ≤ possible_count boxed.now.instance boxed.now.path)) }
 {
@@ -133,19 +125,6 @@ fn priced_zeros(alloc: Global, inst: &Instance, nu: i128) -> Result<Duals, NoMem
         vec![in alloc; 0; inst.custs()]?,
         vec![in alloc; 0; inst.sites()]?,
     ))
-}
-
-// How many sites are opened in the box.
-fn opened_count(boxed: &PreparedBox<'_>) -> usize
-    ensures { result ≡ length (opened_places boxed.now.instance boxed.now.path) }
-{
-    let mut count = 0;
-    for site in 0..boxed.instance().sites() {
-        if boxed.is_opened(site) {
-            count += 1;
-        }
-    }
-    count
 }
 
 // How many sites aren't closed in the box.
@@ -174,9 +153,7 @@ fn is_possible(boxed: &PreparedBox<'_>, site: usize) -> bool
 // The ray of a box in which all possible sites together hold less than all customers demand, as far as
 // the bound shows it: each price of a capacity is 1, and each dual is the customer's demand.
 fn total_ray(alloc: Global, boxed: &PreparedBox<'_>) -> Result<Option<Duals>, NoMemory>
-    ensures ray { IfOk result (λ ray. IfSome ray (λ d. d.q ≡ 0)) }
-    ensures made { IfOk result (λ ray. IfSome ray (λ d. (old_path : Decisions) → (old : Prices) →
-        IsMadeLeaf boxed.now.instance old_path old boxed.now.path d)) }
+    ensures ray { IfOk result (λ ray. IfSome ray (IsRayIn boxed.now.instance boxed.now.path)) }
 {
     let inst = boxed.instance();
     if !demand_is_greater(boxed) {

@@ -91,7 +91,7 @@ impl<'a> Search<'a> {
 
     /// How much the best plan costs above the bound that steps have come to, in millionths.
     pub(crate) fn left(&self) -> f64 {
-        self.target() - self.helpers.steps.bound()
+        self.target() - self.helpers.steps.progress().bound()
     }
 
     /// Whether less than this part of what the best plan costs is left.

@@ -84,7 +84,7 @@ fn step(search: &mut Search<'_>)
 
 // Whether it is worth while to go on before the box is split.
 fn may_close(search: &Search<'_>) -> bool {
-    search.is_near(NEAR) || is_decided(search.helpers.steps.shares())
+    search.is_near(NEAR) || is_decided(search.helpers.steps.progress().shares())
 }
 
 fn is_decided(shares: &[f64]) -> bool {

@@ -1,17 +1,17 @@
-use Rattle.std.proofs.Common.{◌≡◌, ◌+◌, ◌*◌, ◌≤◌, ◌+ℤ◌, ◌≤ℤ◌, length, get_or, ℤ, pos, Option, Some, sym, ap, subst, ◌∙◌, arith}
+use Rattle.std.proofs.Common.{◌≡◌, ◌+◌, ◌*◌, ◌≤◌, ◌+ℤ◌, ◌≤ℤ◌, get_or, ℤ, pos, Option, Some, sym, ap, subst, ◌∙◌, arith}
 use mir.Syntax.{w128}
 use mir.Val.{to_z, of_z}
 use Rattle.std.specs.Prelude.{MatchOption, unsigned_abs}
 use Rattle.std.proofs.lemmas.Int.{to_z-of_z}
 use Rattle.location_terms.specs.Bound.{v_at}
-use Rattle.location_terms.specs.declared.limits.TheConstants.{MAX_SCALE, MAX_VALUE}
+use Rattle.location_terms.specs.declared.limits.TheConstants.{MAX_VALUE}
 use Rattle.lane_order.specs.declared.order.PlacedLane.{PlacedLane}
 use Rattle.dual_ascent.specs.Ascent.{lesser}
 use Rattle.dual_ascent.specs.Steps.{IsOutlook, IsOffer, IsReached}
 use Rattle.dual_ascent.specs.declared.looking.Offer.TheVariants.{UpTo}
 use Rattle.dual_ascent.specs.declared.looking.Outlook.{Outlook}
 use Rattle.dual_value.proofs.Payments.{value_small}
-use Rattle.dual_ascent.proofs.Sized.{scaled_bits, scaled_size, value_bits}
+use Rattle.dual_ascent.proofs.Sized.{scaled_level, scaled_size, value_bits}
 use Rattle.dual_ascent.proofs.Offers.{offer_kept}
 use Rattle.dual_ascent.proofs.Walked.{IsPassed}
 use Rattle.dual_ascent.proofs.Looked.{IsLeastOver, blocked_by_spent, barred_next, offer_next, cut_at, at_end}
@@ -42,8 +42,7 @@ returns-then-is_within c =
     let k = c.loop-lane.lane-index in
     let walk = c.lanes_of-lanes.ensures.walk in
     let e : PlacedLane = record { cost = 0; site = 0 } in
-    let scale : c.q-q.result ≤ MAX_SCALE = omega (arith, c.q-q.ensures, c.requires.fit.in_limits.scale) in
-    let level : to_z w128 (of_z w128 c.scaled.result) ≡ pos (d.q * (get_or lanes k e).cost) = scaled_bits c.scaled.result c.q-q.result (get_or lanes k e).cost c.scaled.ensures scale (walk.small k e c.loop-lane-test.true) ∙ ap (λ q. pos (q * (get_or lanes k e).cost)) c.q-q.ensures in
+    let level : to_z w128 (of_z w128 c.scaled.result) ≡ pos (d.q * (get_or lanes k e).cost) = scaled_level d c.scaled.result c.q-q.result (get_or lanes k e).cost c.scaled.ensures c.q-q.ensures c.requires.fit.in_limits.scale (walk.small k e c.loop-lane-test.true) in
     let value = value_bits I path d c.requires.valid c.requires.fit j c.requires.customer c.v-value.result c.v-value.ensures in
     let Far : ℤ → ℤ → Type 0 = λ v l. MatchOption c.loop-lane.least ⊥ (λ rise. (v +ℤ rise) ≤ℤ l) in
     let far = c.is_within.ensures.0 c.if-is_within.true in
@@ -91,12 +90,5 @@ loop-lane-preserved c =
 
 pub returns : goal.returns
 returns c =
-    let I = c.args.boxed.now.instance in
-    let path = c.args.boxed.now.path in
-    let d = c.args.duals.now in
-    let j = c.args.cust in
-    let lanes = c.lanes_of-lanes.result.now in
-    let walk = c.lanes_of-lanes.ensures.walk in
-    let all : c.loop-lane.lane-index ≡ length lanes = omega arith in
-    let known : IsLeastOver I path d j (IsPassed lanes (length lanes)) c.loop-lane.least = subst (λ k. IsLeastOver I path d j (IsPassed lanes k) c.loop-lane.least) all c.loop-lane.invariant in
-    subst (λ (o : Outlook). IsOutlook I path d j o) (sym c.shown-2.ensures) (at_end I path d j lanes walk c.loop-lane.least known)
+    let seen = at_end c.args.boxed.now.instance c.args.boxed.now.path c.args.duals.now c.args.cust c.lanes_of-lanes.result.now c.lanes_of-lanes.ensures.walk c.loop-lane.least c.loop-lane.lane-index (omega arith) c.loop-lane.invariant in
+    subst (λ (o : Outlook). IsOutlook c.args.boxed.now.instance c.args.boxed.now.path c.args.duals.now c.args.cust o) (sym c.shown-2.ensures) seen

@@ -1,77 +1,45 @@
-use Rattle.std.proofs.Common.{◌≡◌, ◌+◌, ◌*◌, ◌≤◌, ◌+ℤ◌, ◌≤ℤ◌, length, get_or, ℕ, ℤ, pos, Option, Some, sym, ap, subst, ◌∙◌, arith}
+use Rattle.std.proofs.Common.{◌≡◌, ◌+◌, ◌*◌, ◌+ℤ◌, ◌≤ℤ◌, get_or, ℕ, ℤ, pos, Option, Some, sym, ap, subst, ◌∙◌, arith}
 use mir.Syntax.{w128}
 use mir.Val.{to_z, of_z}
 use Rattle.std.specs.Prelude.{MatchOption, is_some}
 use Rattle.std.proofs.lemmas.Int.{to_z-of_z}
 use Rattle.location_terms.specs.Instance.{Instance, customer_at}
 use Rattle.location_terms.specs.Bound.{level_at}
-use Rattle.location_terms.specs.declared.limits.TheConstants.{MAX_SCALE}
 use Rattle.lane_order.specs.declared.order.PlacedLane.{PlacedLane}
 use Rattle.dual_ascent.specs.Ascent.{lesser}
-use Rattle.dual_ascent.proofs.Sized.{scaled_bits, scaled_size, level_is}
+use Rattle.dual_ascent.proofs.Sized.{scaled_level, scaled_size, level_is}
 use Rattle.dual_ascent.proofs.Walked.{IsPassed}
 use Rattle.dual_ascent.proofs.Seated.{IsLeastOf, barred_passed, level_passed, level_cut, level_end}
 use Rattle.dual_ascent.proofs.seating.least_level.Goals as goal
 use Rattle.dual_ascent.proofs.seating.least_level.Goals.{then-admits, else-admits}
 
 pub scaled-requires : goal.scaled-requires
-scaled-requires c =
-    let I = c.args.boxed.now.instance in
-    let path = c.args.boxed.now.path in
-    let d = c.args.duals.now in
-    let j = c.args.cust in
-    let lanes = c.lanes_of-lanes.result.now in
-    let walk = c.lanes_of-lanes.ensures.walk in
-    walk.small c.loop-lane.lane-index (record { cost = 0; site = 0 }) c.loop-lane-test.true
+scaled-requires c = c.lanes_of-lanes.ensures.walk.small c.loop-lane.lane-index (record { cost = 0; site = 0 }) c.loop-lane-test.true
 
 pub is_within-requires-clause-level : goal.is_within-requires-clause-level
 is_within-requires-clause-level c =
-    let I = c.args.boxed.now.instance in
-    let path = c.args.boxed.now.path in
-    let d = c.args.duals.now in
-    let j = c.args.cust in
-    let lanes = c.lanes_of-lanes.result.now in
-    let walk = c.lanes_of-lanes.ensures.walk in
-    let k = c.loop-lane.lane-index in
     let e : PlacedLane = record { cost = 0; site = 0 } in
-    scaled_size c.scaled.result c.q-q.result (get_or lanes k e).cost c.scaled.ensures (omega (arith, c.q-q.ensures, c.requires.fit.in_limits.scale)) (walk.small k e c.loop-lane-test.true)
+    let k = c.loop-lane.lane-index in
+    scaled_size c.scaled.result c.q-q.result (get_or c.lanes_of-lanes.result.now k e).cost c.scaled.ensures (omega (arith, c.q-q.ensures, c.requires.fit.in_limits.scale)) (c.lanes_of-lanes.ensures.walk.small k e c.loop-lane-test.true)
 
 pub returns-then-is_within : goal.returns-then-is_within
 returns-then-is_within c =
-    let I = c.args.boxed.now.instance in
-    let path = c.args.boxed.now.path in
     let d = c.args.duals.now in
-    let j = c.args.cust in
     let lanes = c.lanes_of-lanes.result.now in
     let walk = c.lanes_of-lanes.ensures.walk in
     let k = c.loop-lane.lane-index in
     let e : PlacedLane = record { cost = 0; site = 0 } in
-    let scale : c.q-q.result ≤ MAX_SCALE = omega (arith, c.q-q.ensures, c.requires.fit.in_limits.scale) in
-    let level : to_z w128 (of_z w128 c.scaled.result) ≡ pos (d.q * (get_or lanes k e).cost) = scaled_bits c.scaled.result c.q-q.result (get_or lanes k e).cost c.scaled.ensures scale (walk.small k e c.loop-lane-test.true) ∙ ap (λ q. pos (q * (get_or lanes k e).cost)) c.q-q.ensures in
+    let level : to_z w128 (of_z w128 c.scaled.result) ≡ pos (d.q * (get_or lanes k e).cost) = scaled_level d c.scaled.result c.q-q.result (get_or lanes k e).cost c.scaled.ensures c.q-q.ensures c.requires.fit.in_limits.scale (walk.small k e c.loop-lane-test.true) in
     let Far : ℤ → Type 0 = λ l. MatchOption c.loop-lane.least ⊥ (λ m. (pos 0 +ℤ m) ≤ℤ l) in
-    level_cut I path d j lanes walk c.loop-lane.least k e c.loop-lane.invariant (subst Far level (c.is_within.ensures.0 c.if-is_within.true))
+    level_cut c.args.boxed.now.instance c.args.boxed.now.path d c.args.cust lanes walk c.loop-lane.least k e c.loop-lane.invariant (subst Far level (c.is_within.ensures.0 c.if-is_within.true))
 
 pub admits-requires-clause-lane : goal.admits-requires-clause-lane
 admits-requires-clause-lane c =
-    let I = c.args.boxed.now.instance in
-    let path = c.args.boxed.now.path in
-    let d = c.args.duals.now in
-    let j = c.args.cust in
-    let lanes = c.lanes_of-lanes.result.now in
-    let walk = c.lanes_of-lanes.ensures.walk in
-    let k = c.loop-lane.lane-index in
     let e : PlacedLane = record { cost = 0; site = 0 } in
-    ap (λ (o : Option ℕ). is_some o) (walk.is_lane k e c.loop-lane-test.true)
+    ap (λ (o : Option ℕ). is_some o) (c.lanes_of-lanes.ensures.walk.is_lane c.loop-lane.lane-index e c.loop-lane-test.true)
 
 pub level-requires-clause-cost : goal.level-requires-clause-cost
-level-requires-clause-cost c =
-    let I = c.args.boxed.now.instance in
-    let path = c.args.boxed.now.path in
-    let d = c.args.duals.now in
-    let j = c.args.cust in
-    let lanes = c.lanes_of-lanes.result.now in
-    let walk = c.lanes_of-lanes.ensures.walk in
-    walk.small c.loop-lane.lane-index (record { cost = 0; site = 0 }) c.loop-lane-test.true
+level-requires-clause-cost c = c.lanes_of-lanes.ensures.walk.small c.loop-lane.lane-index (record { cost = 0; site = 0 }) c.loop-lane-test.true
 
 pub loop-lane-preserved : goal.loop-lane-preserved
 loop-lane-preserved c =
@@ -98,12 +66,4 @@ loop-lane-preserved c =
     ]
 
 pub returns : goal.returns
-returns c =
-    let I = c.args.boxed.now.instance in
-    let path = c.args.boxed.now.path in
-    let d = c.args.duals.now in
-    let j = c.args.cust in
-    let lanes = c.lanes_of-lanes.result.now in
-    let walk = c.lanes_of-lanes.ensures.walk in
-    let all : c.loop-lane.lane-index ≡ length lanes = omega arith in
-    level_end I path d j lanes walk c.loop-lane.least (subst (λ k. IsLeastOf I path d j (IsPassed lanes k) c.loop-lane.least) all c.loop-lane.invariant)
+returns c = level_end c.args.boxed.now.instance c.args.boxed.now.path c.args.duals.now c.args.cust c.lanes_of-lanes.result.now c.lanes_of-lanes.ensures.walk c.loop-lane.least c.loop-lane.lane-index (omega arith) c.loop-lane.invariant

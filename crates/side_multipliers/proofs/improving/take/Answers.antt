@@ -1,7 +1,6 @@
 use Rattle.std.proofs.Common.{◌≡◌, ◌∙◌, arith}
 use mir.Syntax.{w128}
 use mir.Val.{to_z, of_z}
-use Rattle.location_terms.specs.Bound.{bound_of}
 use Rattle.dual_value.specs.declared.bounds.TheConstants.{MAX_BOUND}
 use Rattle.dual_value.proofs.Sizes.{kept}
 use Rattle.side_multipliers.proofs.Rises.{rise_is_no_worse}
