@@ -10,17 +10,17 @@ use Rattle.shelf_lines.specs.Line.{is_line_feed, IsLine}
 use Rattle.shelf_lines.specs.Rest.{LineState, unread, Takes}
 use Rattle.shelf_lines.specs.Input.{HasLongLine}
 use Rattle.shelf_lines.proofs.Feeds.{before-is_line, around_feed}
-use Rattle.shelf_lines.proofs.Pieces.{nothing_ahead}
+use Rattle.shelf_lines.proofs.Pieces.{none_ahead}
 
 with_front-append : (told : Option (List ℕ)) (xs ys : List ℕ) → with_front (xs ++ ys) told ≡ with_front xs (with_front ys told)
 with_front-append None xs ys = refl
 with_front-append (Some rest) xs ys = ap Some (append_assoc xs ys rest)
 
 -- a read that failed changes nothing of what is left
-pub failed_told : (before after : Option (List ℕ)) (ahead : List ℕ) (from to : ℕ) (old new : List ℕ) → to ≤ length old → drop from (take to old) ≡ ahead → ahead ≡ [] → after ≡ before
+pub failed_told : (before after : Option (List ℕ)) (ahead : List ℕ) (from to : ℕ) (old new : List ℕ) → to ≤ from → drop from (take to old) ≡ ahead → after ≡ before
     → with_front (drop from (take to new)) after ≡ with_front ahead before
-failed_told before after ahead from to old new within same none unchanged =
-    ap (λ l. with_front l after) (nothing_ahead from to old new within (same ∙ none) ∙ sym none)
+failed_told before after ahead from to old new spent same unchanged =
+    ap (λ l. with_front l after) (none_ahead from to new spent ∙ sym (none_ahead from to old spent) ∙ same)
     ∙ ap (with_front ahead) unchanged
 
 -- a look ahead hands out nothing

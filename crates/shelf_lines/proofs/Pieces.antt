@@ -1,7 +1,7 @@
 -- A file that is read in pieces, up to a limit.
-use Rattle.std.proofs.Common.{◌≡◌, ℕ, ◌+◌, ◌-◌, ◌<◌, ◌≤◌, List, [], ◌++◌, length, take, drop, sym, ap, ◌∙◌, subst, arith, length-drop}
+use Rattle.std.proofs.Common.{◌≡◌, ℕ, ◌+◌, ◌-◌, ◌<◌, ◌≤◌, List, [], ◌++◌, length, take, drop, sym, ap, ◌∙◌, subst, arith}
 use Rattle.std.proofs.lemmas.List.{take-append-le, take-append-drop, take-take, drop-take, drop-drop, drop_all, length-take}
-use Rattle.shelf_port.specs.Files.{Reads}
+use Rattle.shelf_port.specs.Files.{IsPiece}
 use Rattle.shelf_lines.specs.Rest.{LineState, rest_of, IsAtEnd}
 
 -- what lies within the limit behind a place is the next n bytes there, and what lies within it behind those
@@ -16,38 +16,34 @@ piece_and_rest at n limit file within =
     ∙ take-append-drop n (drop at (take limit file))
 
 -- nothing of a piece is left, whatever stands in it
-pub nothing_ahead : (from to : ℕ) (old new : List ℕ) → to ≤ length old → drop from (take to old) ≡ [] → drop from (take to new) ≡ []
-nothing_ahead from to old new within none =
-    drop_all from (take to new) (omega (arith, length-drop from (take to old), length-take to old, length-take to new, ap length none))
+pub none_ahead : (from to : ℕ) (piece : List ℕ) → to ≤ from → drop from (take to piece) ≡ []
+none_ahead from to piece spent = drop_all from (take to piece) (omega (arith, length-take to piece))
 
 -- a read that failed changes nothing of what is left
 pub failed_rest : (now : LineState) (limit at from to : ℕ) (old new line file : List ℕ)
-    → to ≤ length old
+    → to ≤ from
     → record { limit = limit; at = at; ahead = drop from (take to old); line = line } ≡ now
-    → now.ahead ≡ []
     → rest_of (record { limit = limit; at = at; ahead = drop from (take to new); line = line }) file ≡ rest_of now file
-failed_rest now limit at from to old new line file within same none =
-    let left : drop from (take to old) ≡ [] = ap (λ (r : LineState). r.ahead) same ∙ none in
-    ap (λ front. front ++ drop at (take limit file)) (nothing_ahead from to old new within left ∙ sym left)
+failed_rest now limit at from to old new line file spent same =
+    ap (λ front. front ++ drop at (take limit file)) (none_ahead from to new spent ∙ sym (none_ahead from to old spent))
     ∙ ap (λ (r : LineState). rest_of r file) same
 
 -- a piece that was read changes nothing of what is left
 pub fetched_rest : (now : LineState) (limit at n : ℕ) (ahead line buffer piece behind file : List ℕ)
     → record { limit = limit; at = at; ahead = ahead; line = line } ≡ now
-    → now.ahead ≡ []
-    → Reads file at n buffer piece → n ≤ length piece → at + n ≤ limit
+    → ahead ≡ []
+    → IsPiece file at n buffer piece → n ≤ length piece → at + n ≤ limit
     → rest_of (record { limit = limit; at = at + n; ahead = take n (piece ++ behind); line = line }) file ≡ rest_of now file
 fetched_rest now limit at n ahead line buffer piece behind file same none reads fits within =
-    let left : ahead ≡ [] = ap (λ (r : LineState). r.ahead) same ∙ none in
     ap (λ front. front ++ drop (at + n) (take limit file)) (take-append-le n piece behind fits ∙ reads.front)
     ∙ piece_and_rest at n limit file within
-    ∙ ap (λ front. front ++ drop at (take limit file)) (sym left)
+    ∙ ap (λ front. front ++ drop at (take limit file)) (sym none)
     ∙ ap (λ (r : LineState). rest_of r file) same
 
 -- a read that gave nothing found the end of the file
 pub end_reached : (limit at n : ℕ) (line buffer piece behind file : List ℕ)
     → n ≡ 0 → 0 < length piece → at ≤ limit
-    → Reads file at n buffer piece
+    → IsPiece file at n buffer piece
     → IsAtEnd (record { limit = limit; at = at + n; ahead = take n (piece ++ behind); line = line }) file
 end_reached limit at n line buffer piece behind file none room within reads =
     let ends : length file ≤ at = reads.end none room in

@@ -1,5 +1,5 @@
 // The lines of a file on a shelf: the next piece is what is read behind the last one.
-ghost use Rattle.std.specs.Prelude.{◌≡◌, ℕ, ◌+◌, ◌<◌, ◌≢◌, ◌↔◌, List, [], ◌∷◌, ◌++◌, length, IfOk, OnOk, OnErr, IsErrOf, IsTrue, ⊤};
+ghost use Rattle.std.specs.Prelude.{◌≡◌, ℕ, ◌+◌, ◌<◌, ◌↔◌, List, [], ◌∷◌, ◌++◌, length, IfOk, OnOk, OnErr, IsErrOf, IsTrue, ⊤};
 ghost use Rattle.shelf_port.specs.Files.{HasFile, Rose, NeverFalls};
 ghost use Rattle.shelf_lines.specs.Rest.{ForFile, rest_of, unread, IsAtEnd, IsAtLimit};
 ghost use Rattle.shelf_lines.specs.Line.{IsLine};
@@ -41,35 +41,10 @@ impl LineReader {
         if self.from < self.to {
             return Ok(Ahead::Bytes);
         }
-        if self.at < self.limit {
-            return self.fetch(shelf, name);
+        if self.at == self.limit {
+            let is_longer = has_byte_at(shelf, name, self.at)?;
+            return Ok(if is_longer { Ahead::Limit } else { Ahead::End });
         }
-        let is_longer = has_byte_at(shelf, name, self.at)?;
-        Ok(if is_longer { Ahead::Limit } else { Ahead::End })
-    }
-
-    // Reads the next piece, where nothing of the last one is left and the limit is not reached.
-    fn fetch<H: Shelf>(&mut self, shelf: &mut H, name: &str) -> Result<Ahead, LineFault>
-        requires nothing_ahead { self.old.ahead ≡ [] }
-        requires below_limit { self.old.at < self.old.limit }
-        ensures bytes { result ≡ Ok Ahead.Bytes → 0 < length self.new.ahead }
-        ensures end { result ≡ Ok Ahead.End →
-            HasFile (H.files shelf.old) name.now (IsAtEnd self.new) }
-        ensures limit { IfOk result (λ ahead. ahead ≢ Ahead.Limit) }
-        ensures there { OnOk result (HasFile (H.files shelf.old) name.now (λ _. ⊤)) }
-        ensures failed { IsErrOf result LineFault.Failed →
-            Rose (H.read_faults shelf.old name.now) (H.read_faults shelf.new name.now) }
-
-        ensures rest { ForFile (H.files shelf.old) name.now
-            (λ file. rest_of self.new file ≡ rest_of self.old file) }
-        ensures unread { unread self.new ≡ unread self.old }
-        ensures same_line { self.new.line ≡ self.old.line }
-        ensures same_limit { self.new.limit ≡ self.old.limit }
-
-        ensures unchanged { H.files shelf.new ≡ H.files shelf.old }
-        ensures reads { NeverFalls (H.read_faults shelf.old) (H.read_faults shelf.new) }
-        ensures writes { NeverFalls (H.write_faults shelf.old) (H.write_faults shelf.new) }
-    {
         let room = (self.limit - self.at).min(PIECE as u64) as usize;
         let count = shelf.read_at(name, self.at, &mut self.piece[..room])?;
         self.from = 0;

@@ -1,5 +1,5 @@
 // The lines of an input, which is read once: the next piece is what it gives next.
-ghost use Rattle.std.specs.Prelude.{◌≡◌, ◌+◌, ◌-◌, ◌^◌, ◌<◌, ◌≤◌, ◌≢◌, [], ◌∷◌, ◌++◌, length, IfSome, IfOk, OnOk, OnErr, IsErrOf};
+ghost use Rattle.std.specs.Prelude.{◌≡◌, ◌+◌, ◌-◌, ◌^◌, ◌<◌, ◌≤◌, [], ◌∷◌, ◌++◌, length, IfSome, OnOk, OnErr, IsErrOf};
 ghost use Rattle.shelf_port.specs.Files.{Rose};
 ghost use Rattle.shelf_port.specs.Streams.{with_front};
 ghost use Rattle.shelf_lines.specs.Rest.{unread};
@@ -163,30 +163,9 @@ impl LineReader {
         if self.from < self.to {
             return Ok(Ahead::Bytes);
         }
-        if self.at < self.limit {
-            return self.fetch_of(source);
+        if self.at == self.limit {
+            return Ok(Ahead::Limit);
         }
-        Ok(Ahead::Limit)
-    }
-
-    // Reads the next piece, where nothing of the last one is left and more is looked at.
-    fn fetch_of<S: Source>(&mut self, source: &mut S) -> Result<Ahead, LineFault>
-        requires nothing_ahead { self.old.ahead ≡ [] }
-        requires below_limit { self.old.at < self.old.limit }
-        ensures bytes { result ≡ Ok Ahead.Bytes → 0 < length self.new.ahead }
-        ensures end { result ≡ Ok Ahead.End → (self.new.ahead ≡ []) × (0 < unread self.new)
-            × IfSome (S.left source.new) (λ rest. rest ≡ []) }
-        ensures limit { IfOk result (λ ahead. ahead ≢ Ahead.Limit) }
-        ensures failed { IsErrOf result LineFault.Failed →
-            Rose (S.faults source.old) (S.faults source.new) }
-
-        ensures rest { with_front self.new.ahead (S.left source.new)
-            ≡ with_front self.old.ahead (S.left source.old) }
-        ensures unread { unread self.new ≡ unread self.old }
-        ensures same_line { self.new.line ≡ self.old.line }
-
-        ensures counts { S.faults source.old ≤ S.faults source.new }
-    {
         let room = (self.limit - self.at).min(PIECE as u64) as usize;
         let count = source.read(&mut self.piece[..room])?;
         self.from = 0;

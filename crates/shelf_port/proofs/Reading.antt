@@ -3,7 +3,7 @@ use Rattle.std.proofs.Common.{◌≡◌, ℕ, ◌+◌, ◌<◌, ◌≤◌, List,
 use Rattle.std.proofs.lemmas.List.{length-take, take_all}
 use Rattle.std.specs.Prelude.{Option, None, Some, IsSomeAnd}
 use Rattle.std.specs.FinMap.{get}
-use Rattle.shelf_port.specs.Files.{Files, HasFile, Reads}
+use Rattle.shelf_port.specs.Files.{Files, HasFile, IsPiece}
 use Rattle.shelf_port.proofs.Lists.{take-add}
 
 -- what was read so far is the front of the named file, where that is told and there
@@ -36,11 +36,11 @@ file_has told name P files file is at has =
 pub read_further : (told start : Option Files) (name content old piece next : List ℕ) (at n : ℕ)
     → told ≡ start → at ≡ length content
     → ReadSoFar start name content
-    → HasFile told name (λ file. Reads file at n old piece)
+    → HasFile told name (λ file. IsPiece file at n old piece)
     → n ≤ length piece → next ≡ content ++ take n piece
     → ReadSoFar start name next
 read_further told start name content old piece next at n same place so_far reads within step files file is there =
-    let read : Reads file at n old piece = file_has told name _ files file (same ∙ is) there reads in
+    let read : IsPiece file at n old piece = file_has told name _ files file (same ∙ is) there reads in
     let len : length next ≡ length content + n = omega (arith, ap length step, length-append content (take n piece), length-take n piece) in
     step
     ∙ ap (λ front. front ++ take n piece) (so_far files file is there)
@@ -51,10 +51,10 @@ read_further told start name content old piece next at n same place so_far reads
 pub read_to_end : (told start : Option Files) (name content old piece : List ℕ) (at n : ℕ)
     → told ≡ start → at ≡ length content
     → ReadSoFar start name content
-    → HasFile told name (λ file. Reads file at n old piece)
+    → HasFile told name (λ file. IsPiece file at n old piece)
     → n ≡ 0 → 0 < length piece
     → HasFile start name (λ file. content ≡ file)
 read_to_end told start name content old piece at n same place so_far reads none room =
     has_more start name _ _
     (λ files file is there read. so_far files file is there ∙ take_all (length content) file (subst (λ k. length file ≤ k) place (read.end none room)))
-    (subst (λ t. HasFile t name (λ file. Reads file at n old piece)) same reads)
+    (subst (λ t. HasFile t name (λ file. IsPiece file at n old piece)) same reads)

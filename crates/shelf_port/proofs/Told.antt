@@ -6,7 +6,7 @@ use Rattle.std.specs.Prelude.{Option, None, Some, unwrap_or}
 use Rattle.std.specs.Ordering.{nat_cmp, eq_by_cmp}
 use Rattle.std.specs.Cmp.Lexicographic.{slice_cmp}
 use Rattle.std.specs.FinMap.{get, insert, get-insert, same_map, slice_cmp-IsAntisymmetric, nat_cmp-IsAntisymmetric}
-use Rattle.shelf_port.specs.Files.{Files, Reads, with_file, with_added, bytes_of, LeavesPrefix, AddsPrefix}
+use Rattle.shelf_port.specs.Files.{Files, IsPiece, with_file, with_added, bytes_of, LeavesPrefix, AddsPrefix}
 use Rattle.shelf_port.specs.Streams.{with_front, with_back}
 use Rattle.shelf_port.proofs.Lists.{take-add}
 
@@ -100,7 +100,7 @@ put_some start emptied after name bytes first (inr some) =
     inr (some.0, some.1, put_all start emptied after name (take some.0 bytes) first some.2)
 
 -- what is left behind a place is what a read gave there, and what is left behind that
-pub given_further : (bytes file old new : List ℕ) (at n : ℕ) → bytes ≡ file → Reads bytes at n old new
+pub given_further : (bytes file old new : List ℕ) (at n : ℕ) → bytes ≡ file → IsPiece bytes at n old new
     → ◌≡◌ {A = Option (List ℕ)} (Some (drop at file)) (with_front (take n new) (Some (drop (at + n) file)))
 given_further bytes file old new at n same read =
     ap Some

@@ -31,7 +31,7 @@ MayHold None name bytes = Unit {0}
 MayHold (Some files) name bytes = get files name ≡ Some bytes
 
 -- a read at a place put n bytes of the file at the front of the buffer, and left what lies behind them
-pub record Reads (file : List ℕ) (at n : ℕ) (old new : List ℕ) : Type 0 where
+pub record IsPiece (file : List ℕ) (at n : ℕ) (old new : List ℕ) : Type 0 where
   pub front : take n new ≡ take n (drop at file)
   pub behind : drop n new ≡ drop n old
   pub end : n ≡ 0 → 0 < length new → length file ≤ at

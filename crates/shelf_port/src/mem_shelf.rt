@@ -3,7 +3,7 @@ ghost use Rattle.std.specs.Prelude.{◌≡◌, ◌⊎◌, ℕ, ◌+◌, ◌<◌,
 ghost use Rattle.std.specs.Option.{option_copied};
 ghost use Rattle.std.specs.List.{position_from};
 ghost use Rattle.std.specs.FinMap.{get, insert};
-ghost use Rattle.shelf_port.specs.Files.{Files, bytes_of, with_file, with_added, HasFile, Reads, Rose, NeverFalls, CountsOnly};
+ghost use Rattle.shelf_port.specs.Files.{Files, bytes_of, with_file, with_added, HasFile, IsPiece, Rose, NeverFalls, CountsOnly};
 ghost use Rattle.shelf_port.specs.Memory.{files_of_list, is_named};
 ghost use Rattle.shelf_port.specs.Plan.{IsPlanned, NextFails, after_call, IsInPieces};
 
@@ -130,7 +130,7 @@ impl Shelf for MemShelf {
     fn read_at(&mut self, name: &str, at: u64, into: &mut [u8]) -> Result<usize, ShelfFault>
         ensures bound { IfOk result (λ n. n ≤ length into.new) }
         ensures bytes { IfOk result (λ n. HasFile (Some (files_of self.old)) name.now
-            (λ file. Reads file at n into.old into.new)) }
+            (λ file. IsPiece file at n into.old into.new)) }
         ensures unchanged { Some (files_of self.new) ≡ Some (files_of self.old) }
 
         ensures failed { IsErrOf result ShelfFault.Failed →

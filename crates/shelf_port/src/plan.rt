@@ -1,5 +1,5 @@
 // How the calls of an object in memory go: which of them fail, and how much one moves.
-ghost use Rattle.shelf_port.specs.Files.{Reads};
+ghost use Rattle.shelf_port.specs.Files.{IsPiece};
 ghost use Rattle.std.specs.Prelude.{length, ◌≡◌, ◌+◌, ◌-◌, ◌^◌, ◌<◌, ◌≤◌, ◌↔◌, IsTrue};
 
 /// Which calls fail, by their numbers, and how many bytes one call moves at most.
@@ -62,7 +62,7 @@ pub(crate) fn copy_from(file: &[u8], at: usize, plan: &CallPlan, into: &mut [u8]
     ensures bound { result ≤ length into.new }
     ensures within { result ≤ length file.now - at }
     ensures width { result ≤ plan.now.width }
-    ensures reads { Reads file.now at result into.old into.new }
+    ensures reads { IsPiece file.now at result into.old into.new }
 {
     let rest = &file[at.min(file.len())..];
     let count = plan.part_of(rest.len().min(into.len()));

@@ -1,6 +1,6 @@
 // The outside as traits: files by name, an input, an output.
 ghost use Rattle.std.specs.Prelude.{◌≡◌, ◌⊎◌, ℕ, ◌<◌, ◌≤◌, List, [], length, take, drop, Option, IfSome, IfOk, OnOk, OnErr, IsErrOf};
-ghost use Rattle.shelf_port.specs.Files.{Files, with_file, with_added, HasFile, Reads, Rose, NeverFalls};
+ghost use Rattle.shelf_port.specs.Files.{Files, with_file, with_added, HasFile, IsPiece, Rose, NeverFalls};
 ghost use Rattle.shelf_port.specs.Streams.{with_front, with_back, Refusals, taken, refused};
 
 use crate::fault::{ShelfFault, SinkFault, SourceFault};
@@ -22,7 +22,7 @@ pub trait Shelf {
     fn read_at(&mut self, name: &str, at: u64, into: &mut [u8]) -> Result<usize, ShelfFault>
         ensures bound { IfOk result (λ n. n ≤ length into.new) }
         ensures bytes { IfOk result (λ n. HasFile (files self.old) name.now
-            (λ file. Reads file at n into.old into.new)) }
+            (λ file. IsPiece file at n into.old into.new)) }
         ensures unchanged { files self.new ≡ files self.old }
 
         ensures failed { IsErrOf result ShelfFault.Failed →
