@@ -7,8 +7,8 @@ use Rattle.location_terms.specs.Tree.{Node, Leaf, OnSite, OnLane, Tree}
 use Rattle.branch_tree.specs.Preorder.{flat}
 use Rattle.branch_tree.specs.declared.entry.Entry.{Entry}
 use Rattle.branch_tree.specs.declared.entry.Entry.TheVariants.{End, SiteSplit, LaneSplit}
-use Rattle.branch_tree.specs.declared.node.Node.{Node as Shown}
-use Rattle.branch_tree.specs.declared.node.Node.TheVariants as shown
+use Rattle.branch_tree.specs.declared.node.NodeKind.{NodeKind as Shown}
+use Rattle.branch_tree.specs.declared.node.NodeKind.TheVariants as shown
 
 -- one leaf with these duals, on the instance's ids
 abbrev pub leaf_of : Instance → Duals → Tree

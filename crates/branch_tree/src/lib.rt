@@ -19,7 +19,7 @@ pub use builder::Builder;
 pub use dual_value::{Decision, Duals, Path};
 pub use growth::Growth;
 pub use laws::closes_against_its_low_end;
-pub use node::Node;
+pub use node::NodeKind;
 pub use split::Split;
 pub use tree::Tree;
 pub use walk::pass_leaf;

@@ -2,7 +2,7 @@ use location_terms::{CustId, SiteId};
 
 /// A node of a tree without its duals.
 #[derive(Clone, Copy, Debug, PartialEq, Eq)]
-pub enum Node {
+pub enum NodeKind {
     /// A leaf.
     Leaf,
     /// A split on a site, whose first child has the site closed.

@@ -92,7 +92,7 @@ fn has_decided_paths(tree: &Tree) -> bool {
 }
 
 // Whether the tree has these three nodes and two leaves.
-fn has_nodes(tree: &Tree, nodes: [Node; 3]) -> bool {
+fn has_nodes(tree: &Tree, nodes: [NodeKind; 3]) -> bool {
     tree.nodes() == 3
         && tree.leaf_count() == 2
         && tree.node(0) == nodes[0]
@@ -184,8 +184,14 @@ fn built_of(
 
 // Whether the tree is the split on the first site, by its nodes and by its leaves.
 fn has_example_nodes(tree: &Tree) -> bool {
-    has_nodes(tree, [Node::Site(SiteId::new(1)), Node::Leaf, Node::Leaf])
-        && has_values(tree, 0, 1, [2_000_000, 2_000_000, 0])
+    has_nodes(
+        tree,
+        [
+            NodeKind::Site(SiteId::new(1)),
+            NodeKind::Leaf,
+            NodeKind::Leaf,
+        ],
+    ) && has_values(tree, 0, 1, [2_000_000, 2_000_000, 0])
         && has_values(tree, 1, 1, [0, 0, 2_000_000])
 }
 

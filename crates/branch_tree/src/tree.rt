@@ -11,7 +11,7 @@ ghost use Rattle.branch_tree.specs.Preorder.{IsStored, tree_from};
 ghost use Rattle.std.specs.Option.{option_copied};
 ghost use Rattle.branch_tree.specs.Made.{leaf_of, split_on_site, split_on_lane, nodes_shown, entry_shown, duals_at};
 
-use crate::Node;
+use crate::NodeKind;
 use crate::entry::Entry;
 use crate::leaves::{depth_after, leaf_place, path_after, replace_at, step_after};
 use crate::walk::{all_close, least_low};
@@ -189,7 +189,7 @@ impl Tree {
     }
 
     /// The node at this place in preorder, counted from 0.
-    pub fn node(&self, at: u32) -> Node
+    pub fn node(&self, at: u32) -> NodeKind
         requires { at < nodes_of self.now }
         ensures { slice_get (nodes_shown self.now.root) at ≡ Some result }
     {
@@ -249,13 +249,13 @@ impl Tree {
     }
 }
 
-fn shown(entry: &Entry) -> Node
+fn shown(entry: &Entry) -> NodeKind
     ensures { result ≡ entry_shown entry.now }
 {
     match entry {
-        Entry::End(_) => Node::Leaf,
-        Entry::SiteSplit(site) => Node::Site(*site),
-        Entry::LaneSplit(site, cust) => Node::Lane(*site, *cust),
+        Entry::End(_) => NodeKind::Leaf,
+        Entry::SiteSplit(site) => NodeKind::Site(*site),
+        Entry::LaneSplit(site, cust) => NodeKind::Lane(*site, *cust),
     }
 }
 

@@ -10,18 +10,18 @@ use Rattle.location_terms.specs.Instance.{Instance, IsValid}
 use Rattle.location_terms.specs.Plan.{cost_of}
 use Rattle.location_terms.specs.Bound.{bound_of}
 use Rattle.location_terms.specs.Fit.{BoundCloses}
+use Rattle.location_terms.specs.Certificate.{cost_claimed, target_of}
 use Rattle.plan_meaning.proofs.Faults.{OrNot, same_or_not-number, feasible_or_fault}
 use Rattle.certificate_lines.specs.declared.fault.CertFault.{CertFault}
 use Rattle.certificate_lines.specs.Due.{Due, HeaderDue, Shown, NothingShown, PlanShown, SiteShown, LaneShown, LeafShown, Suits}
-use Rattle.certificate_lines.specs.Follow.{cost_claimed}
 use Rattle.certificate_lines.specs.Lines.{Said, read_line}
-use Rattle.certificate_lines.proofs.Gives.{gives-line}
-use Rattle.certificate_lines.proofs.PlansShown.{IsPlanned, plan-line}
+use Rattle.location_terms.specs.Certificate.{cost_claimed, target_of}
+use Rattle.certificate_lines.proofs.Gives.{IsPlanned, gives-line}
 use Rattle.certificate_reader.specs.Transcript.{Transcript, line_first, transcript_from, transcript_of, transcript_within}
 use Rattle.certificate_check.specs.declared.verdict.Why.{Why}
 use Rattle.certificate_check.specs.declared.verdict.Why.TheVariants.{PlanRefused, CostDiffers, LeafOpen}
 use Rattle.certificate_check.specs.declared.verdict.Verdict.TheVariants.{No}
-use Rattle.certificate_check.specs.Judgement.{target_of, IsAgainst, Stands}
+use Rattle.certificate_check.specs.Judgement.{IsAgainst, Stands}
 use Rattle.certificate_check.specs.Verdict.{Answer, at_end, line_of, IsJudged, IsVerdict, IsAnswer}
 
 -- whether an optional cost is this one
@@ -94,7 +94,7 @@ all_planned longer I due n [] valid suits = All-nil IsPlanned
 all_planned longer I due n (rest ∷ []) valid suits = All-nil IsPlanned
 all_planned longer I due n (this ∷ next ∷ more) valid suits =
     line_planned n (read_line I due this) (λ behind. transcript_from longer I behind (n + 1) (next ∷ more))
-    (λ behind shown is. (plan-line I due this behind shown valid suits is, all_planned longer I behind (n + 1) (next ∷ more) valid ((gives-line I due this suits).good (behind, shown) is).0))
+    (λ behind shown is. let good = gives-line I due this (behind, shown) suits is in (good.2 valid, all_planned longer I behind (n + 1) (next ∷ more) valid good.0))
 
 pub some_verdict : (I : Instance) (bytes : List ℕ) → IsValid I → (answer : Answer) × IsVerdict I bytes answer
 some_verdict I bytes valid =

@@ -1,5 +1,5 @@
 -- The answer where the checker stops, from what its reader says.
-use Rattle.std.proofs.Common.{◌≡◌, ◌⊎◌, ℕ, ◌+◌, ◌<◌, ◌≤◌, List, [], ◌∷◌, ◌++◌, length, refl, sym, ap, ◌∙◌, subst, inl, inr, arith, append-nil, length-append, Result, Ok, Err}
+use Rattle.std.proofs.Common.{◌≡◌, ◌⊎◌, ℕ, ◌+◌, ◌≤◌, List, [], ◌∷◌, ◌++◌, length, refl, sym, ap, ◌∙◌, subst, inl, inr, arith, append-nil, length-append, Ok, Err}
 use Rattle.std.specs.Prelude.{All, Option, None, Some}
 use Rattle.std.proofs.lemmas.List.{append_assoc}
 use Rattle.std.proofs.lemmas.List.Elements.{All-nil, All-cons, All-append}
@@ -11,22 +11,19 @@ use Rattle.location_terms.specs.Plan.{Plan}
 use Rattle.location_terms.specs.Optimal.{ClaimHolds}
 use Rattle.location_terms.specs.Certificate.{Certificate, IsAccepted}
 use Rattle.certificate_lines.specs.declared.fault.CertFault.{CertFault}
-use Rattle.certificate_lines.specs.declared.form.Shown.{Shown as Told}
-use Rattle.certificate_lines.specs.Due.{Shown}
-use Rattle.certificate_lines.specs.Form.{shown_of}
+use Rattle.certificate_lines.specs.declared.line.Shown.{Shown as CodeShown}
+use Rattle.certificate_lines.specs.Model.{shown_of}
 use Rattle.certificate_lines.specs.Follow.{HasSmallCosts}
 use Rattle.certificate_lines.specs.Text.{certificate_text}
 use Rattle.certificate_reader.specs.declared.reader.CertReader.{CertReader}
-use Rattle.certificate_reader.specs.declared.reader.Seen.{Seen}
 use Rattle.certificate_reader.specs.declared.reader.Seen.TheVariants.{Line, Whole}
 use Rattle.certificate_reader.specs.Behind as reader
-use Rattle.certificate_reader.specs.Behind.{IsBehind, MayRead, FailsWith, Steps}
+use Rattle.certificate_reader.specs.Behind.{MayRead, FailsWith, Steps}
 use Rattle.certificate_reader.specs.Transcript.{Transcript, ends, behind, transcript_within}
-use Rattle.certificate_reader.proofs.Passing.{goes_somehow}
-use Rattle.certificate_check.specs.declared.verdict.Why.{Why}
-use Rattle.certificate_check.specs.declared.verdict.Verdict.TheVariants.{Yes, No}
-use Rattle.certificate_check.specs.Judgement.{IsAgainst, Stands}
-use Rattle.certificate_check.specs.Verdict.{Answer, line_of, at_end, IsJudged, IsAnswerTo, IsAnswer, IsUnread}
+use Rattle.certificate_reader.proofs.Passing.{HasSeen, seen_more, goes_somehow}
+use Rattle.certificate_check.specs.declared.verdict.Verdict.TheVariants.{Yes}
+use Rattle.certificate_check.specs.Judgement.{Stands}
+use Rattle.certificate_check.specs.Verdict.{Answer, IsRefusal, IsJudged, IsAnswerTo, IsAnswer, IsUnread}
 use Rattle.certificate_check.proofs.Standing.{stands_before}
 use Rattle.certificate_check.proofs.Judged.{parts}
 use Rattle.certificate_check.proofs.Meaning.{yes_means_within, yes_holds_within, accepted_yes_within}
@@ -37,62 +34,48 @@ abbrev pub IsAnswered : Option Files → List ℕ → ℕ → Instance → Answe
 IsAnswered told name limit I answer = (bytes : List ℕ) × MayHold told name bytes × IsAnswer limit I bytes answer
 
 -- a reader stands behind lines that show what stands
-pub record HasStood (told : Option Files) (name : List ℕ) (limit : ℕ) (I : Instance) (reader : CertReader) : Type 0 where
-  pub seen : List Shown
-  pub behind : IsBehind told name limit I seen reader
-  pub stand : All (Stands I) seen
+abbrev pub HasStood : Option Files → List ℕ → ℕ → Instance → CertReader → Type 0
+HasStood told name limit I = HasSeen told name limit I (All (Stands I))
 
-pub stood_none : (told : Option Files) (name : List ℕ) (limit : ℕ) (I : Instance) (reader : CertReader) → IsBehind told name limit I [] reader → HasStood told name limit I reader
-stood_none told name limit I reader behind = record { seen = []; behind = behind; stand = All-nil (Stands I) }
-
-module _ (told : Option Files) (name : List ℕ) (limit : ℕ) (I : Instance) where
+module _ (told : Option Files) (name : List ℕ) (limit : ℕ) (I : Instance) (old new : CertReader) (stood : HasStood told name limit I old) where
   answered : (P : Transcript → Type 0) (answer : Answer) → ((read : Transcript) → P read → IsAnswerTo I read answer) → MayRead told name limit I P → IsAnswered told name limit I answer
   answered P answer so may = (may.0, may.1, so (transcript_within limit I may.0) may.2)
 
-  -- a step of the reader, told of the file as it was before the first one
-  module _ (before : Option Files) (old new : CertReader) (same : before ≡ told) (stood : HasStood told name limit I old) where
-    step : (r : Result Seen CertFault) → Steps before name I old new r → Steps told name I old new r
-    step r steps = subst (λ files. Steps files name I old new r) same steps
+  -- the text is whole
+  pub answers_yes : (claim : Claim) → Steps told name I old new (Ok (Whole claim)) → IsUnread (Ok (Yes claim)) ⊎ IsAnswered told name limit I (Ok (Yes claim))
+  answers_yes claim steps =
+      inr (answered (λ read. read ≡ behind stood.seen (ends (Ok claim))) (Ok (Yes claim))
+      (λ read is. subst (λ r. IsAnswerTo I r (Ok (Yes claim))) (sym is) (stands_before I 1 (1 + length stood.seen) stood.seen [] (Ok claim) (Ok (Yes claim)) stood.has refl refl))
+      (steps limit stood.seen stood.behind))
 
-    -- the text is whole
-    pub answers_yes : (claim : Claim) → Steps before name I old new (Ok (Whole claim)) → IsUnread (Ok (Yes claim)) ⊎ IsAnswered told name limit I (Ok (Yes claim))
-    answers_yes claim steps =
-        inr (answered (λ read. read ≡ behind stood.seen (ends (Ok claim))) (Ok (Yes claim))
-        (λ read is. subst (λ r. IsAnswerTo I r (Ok (Yes claim))) (sym is) (stands_before I 1 (1 + length stood.seen) stood.seen [] (Ok claim) (Ok (Yes claim)) stood.stand refl refl))
-        (step (Ok (Whole claim)) steps limit stood.seen stood.behind))
+  -- the text has a fault, or is too long
+  judged_fault : (fault : CertFault) (read : Transcript) → FailsWith stood.seen fault read → IsAnswerTo I read (Err fault)
+  judged_fault fault read fails =
+      subst (λ end. IsJudged I 1 read.shown end (Err fault)) (sym fails.end)
+      (subst (λ shown. IsJudged I 1 shown (Err fault) (Err fault)) (append-nil read.shown)
+      (stands_before I 1 (1 + length read.shown) read.shown [] (Err fault) (Err fault) (parts (Stands I) read.shown fails.more (subst (All (Stands I)) (sym fails.seen_is) stood.has)).0 refl refl))
 
-    -- the text has a fault, or is too long
-    judged_fault : (fault : CertFault) (read : Transcript) → FailsWith stood.seen fault read → IsAnswerTo I read (Err fault)
-    judged_fault fault read fails =
-        subst (λ end. IsJudged I 1 read.shown end (Err fault)) (sym fails.end)
-        (subst (λ shown. IsJudged I 1 shown (Err fault) (Err fault)) (append-nil read.shown)
-        (stands_before I 1 (1 + length read.shown) read.shown [] (Err fault) (Err fault) (parts (Stands I) read.shown fails.more (subst (All (Stands I)) (sym fails.seen_is) stood.stand)).0 refl refl))
+  by_reason : (fault : CertFault) → reader.IsUnread fault ⊎ MayRead told name limit I (FailsWith stood.seen fault) → IsUnread (Err fault) ⊎ IsAnswered told name limit I (Err fault)
+  by_reason fault (inl (inl failed)) = inl (inl (ap Err failed))
+  by_reason fault (inl (inr none)) = inl (inr (ap Err none))
+  by_reason fault (inr may) = inr (answered (FailsWith stood.seen fault) (Err fault) (judged_fault fault) may)
 
-    by_reason : (fault : CertFault) → reader.IsUnread fault ⊎ MayRead told name limit I (FailsWith stood.seen fault) → IsUnread (Err fault) ⊎ IsAnswered told name limit I (Err fault)
-    by_reason fault (inl (inl failed)) = inl (inl (ap Err failed))
-    by_reason fault (inl (inr none)) = inl (inr (ap Err none))
-    by_reason fault (inr may) = inr (answered (FailsWith stood.seen fault) (Err fault) (judged_fault fault) may)
+  pub answers_fault : (fault : CertFault) → Steps told name I old new (Err fault) → IsUnread (Err fault) ⊎ IsAnswered told name limit I (Err fault)
+  answers_fault fault steps = by_reason fault (steps limit stood.seen stood.behind)
 
-    pub answers_fault : (fault : CertFault) → Steps before name I old new (Err fault) → IsUnread (Err fault) ⊎ IsAnswered told name limit I (Err fault)
-    answers_fault fault steps = by_reason fault (step (Err fault) steps limit stood.seen stood.behind)
+  -- a line shows what stands
+  pub stood_more : (number : ℕ) (shown : CodeShown) → Steps told name I old new (Ok (Line number shown)) → Stands I (shown_of shown) → HasStood told name limit I new
+  stood_more number shown steps stands = seen_more told name limit I (All (Stands I)) (All (Stands I)) old new stood number shown steps (All-append (Stands I) stood.seen (shown_of shown ∷ []) stood.has (All-cons (Stands I) (shown_of shown) [] stands (All-nil (Stands I))))
 
-    -- a line shows what stands
-    pub stood_more : (number : ℕ) (shown : Told) → Steps before name I old new (Ok (Line number shown)) → Stands I (shown_of shown) → HasStood told name limit I new
-    stood_more number shown steps stands = record {
-      seen = stood.seen ++ shown_of shown ∷ [];
-      behind = step (Ok (Line number shown)) steps limit stood.seen stood.behind;
-      stand = All-append (Stands I) stood.seen (shown_of shown ∷ []) stood.stand (All-cons (Stands I) (shown_of shown) [] stands (All-nil (Stands I)));
-    }
-
-    -- something speaks against what a line shows
-    pub answers_no : (number at : ℕ) (shown : Told) (why : Why) → Steps before name I old new (Ok (Line number shown)) → number ≡ old.line → IsAgainst I (shown_of shown) why → at ≡ line_of (shown_of shown) number → IsUnread (Ok (No at why)) ⊎ IsAnswered told name limit I (Ok (No at why))
-    answers_no number at shown why steps counts against is =
-        let seen = stood.seen ++ shown_of shown ∷ [] in
-        inr (answered (λ read. (rest : Transcript) × (read ≡ behind seen rest)) (Ok (No at why))
-        (λ read goes. subst (λ r. IsAnswerTo I r (Ok (No at why))) (sym goes.1)
-        (subst (λ xs. IsJudged I 1 xs goes.0.end (Ok (No at why))) (sym (append_assoc stood.seen (shown_of shown ∷ []) goes.0.shown))
-        (stands_before I 1 number stood.seen (shown_of shown ∷ goes.0.shown) goes.0.end (Ok (No at why)) stood.stand (omega (arith, counts, stood.behind.line)) (inl (why, against, ap (λ n. Ok (No n why)) is)))))
-        (goes_somehow told name limit I seen new (step (Ok (Line number shown)) steps limit stood.seen stood.behind) (omega (arith, length-append stood.seen (shown_of shown ∷ [])))))
+  -- something speaks against what a line shows
+  pub answers_no : (number : ℕ) (shown : CodeShown) (answer : Answer) → Steps told name I old new (Ok (Line number shown)) → number ≡ old.line → IsRefusal I (shown_of shown) number answer → IsUnread answer ⊎ IsAnswered told name limit I answer
+  answers_no number shown answer steps counts refusal =
+      let seen = stood.seen ++ shown_of shown ∷ [] in
+      inr (answered (λ read. (rest : Transcript) × (read ≡ behind seen rest)) answer
+      (λ read goes. subst (λ r. IsAnswerTo I r answer) (sym goes.1)
+      (subst (λ xs. IsJudged I 1 xs goes.0.end answer) (sym (append_assoc stood.seen (shown_of shown ∷ []) goes.0.shown))
+      (stands_before I 1 number stood.seen (shown_of shown ∷ goes.0.shown) goes.0.end answer stood.has (omega (arith, counts, stood.behind.line)) (inl refusal))))
+      (goes_somehow told name limit I seen new (steps limit stood.seen stood.behind) (omega (arith, length-append stood.seen (shown_of shown ∷ [])))))
 
 -- a file that is told holds the bytes that are told
 told_bytes : (told : Option Files) (name bytes text : List ℕ) → MayHold told name bytes → TellsFile told name text → bytes ≡ text

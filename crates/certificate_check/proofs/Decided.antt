@@ -1,5 +1,5 @@
 -- That bytes decide each answer.
-use Rattle.std.proofs.Common.{◌≡◌, ℕ, ◌+◌, ◌<◌, Bool, true, false, List, [], ◌∷◌, length, take, Result, Ok, Err, refl, sym, subst, inl, inr}
+use Rattle.std.proofs.Common.{◌≡◌, ℕ, ◌+◌, Bool, true, false, List, [], ◌∷◌, length, take, Result, Ok, Err, refl, sym, subst, inl, inr}
 use Rattle.std.specs.Prelude.{nat_lt}
 use Rattle.std.specs.List.{slice_split}
 use Rattle.std.proofs.lemmas.Bool.{ltb-true}
@@ -10,7 +10,6 @@ use Rattle.certificate_lines.specs.declared.fault.CertFault.{CertFault}
 use Rattle.certificate_lines.specs.Due.{Due, HeaderDue, NothingDue, Shown}
 use Rattle.certificate_lines.specs.Lines.{Said, read_line}
 use Rattle.certificate_reader.specs.Transcript.{Transcript, at_rest, line_first, transcript_from, transcript_within}
-use Rattle.certificate_check.specs.Judgement.{IsAgainst, Stands}
 use Rattle.certificate_check.specs.Verdict.{Answer, at_end, IsJudged, IsAnswer, IsDecided}
 
 module _ (limit : ℕ) (bytes : List ℕ) where

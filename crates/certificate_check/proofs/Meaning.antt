@@ -1,5 +1,5 @@
 -- A yes says that the bytes are the text of an accepted certificate; and of such a text the verdict is yes.
-use Rattle.std.proofs.Common.{◌≡◌, ℕ, ◌+◌, ◌≤◌, false, List, [], ◌++◌, length, refl, sym, ap, ◌∙◌, subst, Ok, Option}
+use Rattle.std.proofs.Common.{◌≡◌, ℕ, ◌+◌, ◌≤◌, false, List, [], length, refl, sym, subst, Ok, Option}
 use Rattle.std.specs.Prelude.{All}
 use Rattle.location_terms.specs.declared.claim.Claim.{Claim}
 use Rattle.location_terms.specs.Instance.{Instance, IsValid}
@@ -9,7 +9,7 @@ use Rattle.location_terms.specs.Certificate.{Certificate, IsAccepted}
 use Rattle.location_terms.proofs.Claims.{claim_holds}
 use Rattle.certificate_lines.specs.Text.{certificate_text}
 use Rattle.certificate_lines.specs.Follow.{HasSmallCosts}
-use Rattle.certificate_reader.specs.Transcript.{Transcript, transcript_of, transcript_within}
+use Rattle.certificate_reader.specs.Transcript.{transcript_of, transcript_within}
 use Rattle.certificate_reader.proofs.Meaning.{whole_text, text_shown, within_limit, whole_within}
 use Rattle.certificate_check.specs.declared.verdict.Verdict.TheVariants.{Yes}
 use Rattle.certificate_check.specs.Judgement.{Stands}

@@ -7,39 +7,38 @@ use Rattle.location_terms.specs.Instance.{Instance}
 use Rattle.location_terms.specs.Plan.{Plan, IsFeasible}
 use Rattle.location_terms.specs.Bound.{bound_of}
 use Rattle.location_terms.specs.Fit.{BoundCloses}
+use Rattle.location_terms.specs.Certificate.{target_of}
 use Rattle.plan_meaning.specs.declared.fault.PlanFault.{PlanFault}
 use Rattle.plan_meaning.specs.declared.fault.PlanFault.TheVariants.{UnknownSite, NotEachCustomerOnce, ServedByClosed, NoLane, OverCapacity, SiteCount, StatusBroken}
 use Rattle.plan_meaning.specs.PlanFault.{IsFirstFault}
 use Rattle.certificate_lines.specs.declared.fault.CertFault.{CertFault}
-use Rattle.certificate_lines.specs.Due.{Shown, NothingShown, PlanShown, SiteShown, LaneShown, LeafShown}
-use Rattle.certificate_lines.specs.Follow.{told}
+use Rattle.certificate_lines.specs.Due.{Shown, NothingShown, PlanShown, LeafShown}
+use Rattle.certificate_lines.specs.Follow.{shown_list}
 use Rattle.certificate_check.specs.declared.verdict.Why.{Why}
 use Rattle.certificate_check.specs.declared.verdict.Why.TheVariants.{PlanRefused, CostDiffers, LeafOpen}
 use Rattle.certificate_check.specs.declared.verdict.Verdict.TheVariants.{Yes}
-use Rattle.certificate_check.specs.Judgement.{target_of, IsAgainst, Stands}
+use Rattle.certificate_check.specs.Judgement.{IsAgainst, Stands}
 use Rattle.certificate_check.specs.Verdict.{Answer, at_end, IsJudged}
+use Rattle.certificate_check.proofs.Judged.{parts}
 
--- what is told of a line stands where what it shows does
-stands_told : (I : Instance) (shown : Shown) → Stands I shown → All (Stands I) (told shown)
+-- what is shown_list of a line stands where what it shows does
+stands_told : (I : Instance) (shown : Shown) → Stands I shown → All (Stands I) (shown_list shown)
 stands_told I NothingShown stands = All-nil (Stands I)
 stands_told I shown stands = All-cons (Stands I) shown [] stands (All-nil (Stands I))
 
-told_stands : (I : Instance) (shown : Shown) (rest : List Shown) → All (Stands I) (told shown ++ rest) → Stands I shown × All (Stands I) rest
-told_stands I NothingShown rest stand = (tt, stand)
-told_stands I (PlanShown claim P) rest stand = (All-head (Stands I) (PlanShown claim P) rest stand, All-tail (Stands I) (PlanShown claim P) rest stand)
-told_stands I (SiteShown s) rest stand = (tt, All-tail (Stands I) (SiteShown s) rest stand)
-told_stands I (LaneShown s c) rest stand = (tt, All-tail (Stands I) (LaneShown s c) rest stand)
-told_stands I (LeafShown claim path d) rest stand = (All-head (Stands I) (LeafShown claim path d) rest stand, All-tail (Stands I) (LeafShown claim path d) rest stand)
+told_stands : (I : Instance) (shown : Shown) → All (Stands I) (shown_list shown) → Stands I shown
+told_stands I NothingShown stand = tt
+told_stands I shown stand = All-head (Stands I) shown [] stand
 
-pub all_told : (I : Instance) (shown : List Shown) → All (Stands I) shown → All (Stands I) (flat_map told shown)
+pub all_told : (I : Instance) (shown : List Shown) → All (Stands I) shown → All (Stands I) (flat_map shown_list shown)
 all_told I [] stand = All-nil (Stands I)
-all_told I (s ∷ shown) stand = All-append (Stands I) (told s) (flat_map told shown) (stands_told I s (All-head (Stands I) s shown stand)) (all_told I shown (All-tail (Stands I) s shown stand))
+all_told I (s ∷ shown) stand = All-append (Stands I) (shown_list s) (flat_map shown_list shown) (stands_told I s (All-head (Stands I) s shown stand)) (all_told I shown (All-tail (Stands I) s shown stand))
 
-pub told_all : (I : Instance) (shown : List Shown) → All (Stands I) (flat_map told shown) → All (Stands I) shown
+pub told_all : (I : Instance) (shown : List Shown) → All (Stands I) (flat_map shown_list shown) → All (Stands I) shown
 told_all I [] stand = All-nil (Stands I)
 told_all I (s ∷ shown) stand =
-    let both = told_stands I s (flat_map told shown) stand in
-    All-cons (Stands I) s shown both.0 (told_all I shown both.1)
+    let both = parts (Stands I) (shown_list s) (flat_map shown_list shown) stand in
+    All-cons (Stands I) s shown (told_stands I s both.0) (told_all I shown both.1)
 
 -- no part of a feasible plan's feasibility fails
 pub no_fault : (I : Instance) (P : Plan) (fault : PlanFault) → IsFeasible I P → IsFirstFault I P fault → ⊥

@@ -1,22 +1,14 @@
 -- What speaks against a plan or a leaf that a certificate shows, and when nothing does.
-use Rattle.std.specs.Prelude.{◌≡◌, ◌≢◌, ℕ, Option, None, Some}
-use Rattle.location_terms.specs.declared.claim.Claim.{Claim}
-use Rattle.location_terms.specs.declared.claim.Claim.TheVariants.{Optimal, Infeasible, Bracket}
+use Rattle.std.specs.Prelude.{◌≡◌, ◌≢◌, Some}
 use Rattle.location_terms.specs.Instance.{Instance}
 use Rattle.location_terms.specs.Plan.{IsFeasible, cost_of}
 use Rattle.location_terms.specs.Bound.{bound_of}
 use Rattle.location_terms.specs.Fit.{BoundCloses}
+use Rattle.location_terms.specs.Certificate.{cost_claimed, target_of}
 use Rattle.plan_meaning.specs.PlanFault.{IsFirstFault}
 use Rattle.certificate_lines.specs.Due.{Shown, PlanShown, LeafShown}
-use Rattle.certificate_lines.specs.Follow.{cost_claimed}
 use Rattle.certificate_check.specs.declared.verdict.Why.{Why}
 use Rattle.certificate_check.specs.declared.verdict.Why.TheVariants.{PlanRefused, CostDiffers, LeafOpen}
-
--- against what each leaf is to close
-abbrev pub target_of : Claim → Option ℕ
-target_of (Optimal cost) = Some cost
-target_of Infeasible = None
-target_of (Bracket low high) = Some low
 
 -- this speaks against what is shown
 abbrev pub IsAgainst : Instance → Shown → Why → Type 0

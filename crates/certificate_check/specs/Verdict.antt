@@ -25,10 +25,14 @@ abbrev pub line_of : Shown → ℕ → ℕ
 line_of (LeafShown claim path d) line = line - 2
 line_of shown line = line
 
+-- what is shown in the line of this number is answered by what speaks against it
+abbrev pub IsRefusal : Instance → Shown → ℕ → Answer → Type 0
+IsRefusal I shown line answer = (why : Why) × IsAgainst I shown why × (answer ≡ Ok (No (line_of shown line) why))
+
 -- what lines show, of which the first is the line of this number, and then their end are answered so: the first thing that is shown and doesn't stand decides, and else the end
 abbrev pub IsJudged : Instance → ℕ → List Shown → Result Claim CertFault → Answer → Type 0
 IsJudged I line [] end answer = answer ≡ at_end end
-IsJudged I line (shown ∷ more) end answer = ((why : Why) × IsAgainst I shown why × (answer ≡ Ok (No (line_of shown line) why))) ⊎ (Stands I shown × IsJudged I (line + 1) more end answer)
+IsJudged I line (shown ∷ more) end answer = IsRefusal I shown line answer ⊎ (Stands I shown × IsJudged I (line + 1) more end answer)
 
 abbrev pub IsAnswerTo : Instance → Transcript → Answer → Type 0
 IsAnswerTo I read answer = IsJudged I 1 read.shown read.end answer

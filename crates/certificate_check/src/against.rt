@@ -2,9 +2,8 @@
 ghost use Rattle.std.specs.Prelude.{◌≡◌, MatchOption};
 ghost use Rattle.location_terms.specs.Fit.{DualsFit};
 ghost use Rattle.certificate_lines.specs.Due.{PlanShown, LeafShown};
-ghost use Rattle.certificate_lines.specs.Follow.{cost_claimed};
-ghost use Rattle.certificate_lines.specs.Form.{shown_of, IsSound};
-ghost use Rattle.certificate_check.specs.Judgement.{target_of, IsAgainst, Stands};
+ghost use Rattle.certificate_lines.specs.Model.{shown_of, IsSound};
+ghost use Rattle.certificate_check.specs.Judgement.{IsAgainst, Stands};
 
 use crate::Why;
 use branch_tree::{Duals, Path};
@@ -33,7 +32,7 @@ fn against_plan(inst: &Instance, claim: Claim, plan: &Plan) -> Option<Why>
 {
     match judge(inst, plan) {
         Ok(found) => {
-            if Some(found) == cost_claimed(claim) {
+            if Some(found) == claim.cost() {
                 None
             } else {
                 Some(Why::CostDiffers { found })
@@ -50,31 +49,9 @@ fn against_leaf(bounds: &mut BoxBounds<'_>, claim: Claim, path: &Path, duals: &D
 {
     let bound = bounds.bound(path, duals);
     let q = duals.q();
-    if closes(bound, q, target(claim)) {
+    if closes(bound, q, claim.target()) {
         None
     } else {
         Some(Why::LeafOpen { bound, q })
-    }
-}
-
-// The cost that a plan of the claim is to have.
-fn cost_claimed(claim: Claim) -> Option<u64>
-    ensures { result ≡ cost_claimed claim }
-{
-    match claim {
-        Claim::Optimal(cost) => Some(cost),
-        Claim::Infeasible => None,
-        Claim::Bracket { high, .. } => high,
-    }
-}
-
-// The cost against which each leaf is to close.
-fn target(claim: Claim) -> Option<u64>
-    ensures { result ≡ target_of claim }
-{
-    match claim {
-        Claim::Optimal(cost) => Some(cost),
-        Claim::Infeasible => None,
-        Claim::Bracket { low, .. } => Some(low),
     }
 }

@@ -1,15 +1,16 @@
 // The checker, which takes a certificate a line at a time.
-ghost use Rattle.std.specs.Prelude.{◌≡◌, ◌⊎◌, ℕ, ◌≤◌, List, [], length, Option, IsErrOf};
+ghost use Rattle.std.specs.Prelude.{◌≡◌, ◌⊎◌, ℕ, ◌≤◌, List, [], length, Option, MatchOption, IsErrOf};
 ghost use Rattle.location_terms.specs.Plan.{Plan};
 ghost use Rattle.location_terms.specs.Optimal.{ClaimHolds};
 ghost use Rattle.location_terms.specs.Certificate.{Certificate, IsAccepted};
 ghost use Rattle.certificate_lines.specs.Follow.{HasSmallCosts};
-ghost use Rattle.certificate_lines.specs.Form.{shown_of};
+ghost use Rattle.certificate_lines.specs.Model.{shown_of, IsSound};
 ghost use Rattle.certificate_lines.specs.Text.{certificate_text};
 ghost use Rattle.shelf_port.specs.Files.{MayHold, Rose, NeverFalls};
 ghost use Rattle.shelf_lines.specs.Rest.{TellsFile};
 ghost use Rattle.certificate_reader.specs.Behind.{IsBehind};
-ghost use Rattle.certificate_check.specs.Verdict.{IsAnswer, IsUnread, line_of};
+ghost use Rattle.certificate_check.specs.Judgement.{Stands};
+ghost use Rattle.certificate_check.specs.Verdict.{IsAnswer, IsUnread, IsRefusal, line_of};
 
 use crate::against::against;
 use crate::{CertFault, MAX_CERTIFICATE_BYTES, Verdict};
@@ -88,13 +89,25 @@ pub(crate) fn check_lines<H: Shelf>(
         match reader.next(alloc, inst, shelf, name)? {
             Seen::Whole(claim) => return Ok(Verdict::Yes(claim)),
             Seen::Line(line, shown) => {
-                if let Some(why) = against(inst, &mut bounds, &shown) {
-                    let line = line_of(&shown, line);
-                    return Ok(Verdict::No { line, why });
+                if let Some(no) = refusal(inst, &mut bounds, line, shown) {
+                    return Ok(no);
                 }
             }
         }
     }
+}
+
+// The verdict on what the line of this number shows, where something speaks against it.
+fn refusal(inst: &Instance, bounds: &mut BoxBounds<'_>, line: u64, shown: Shown) -> Option<Verdict>
+    requires bounds { bounds.old ≡ inst.now }
+    requires sound { IsSound inst.now (shown_of shown) }
+    ensures kept { bounds.new ≡ bounds.old }
+    ensures exact { MatchOption result (Stands inst.now (shown_of shown))
+        (λ no. IsRefusal inst.now (shown_of shown) line (Ok no)) }
+{
+    let why = against(inst, bounds, &shown)?;
+    let line = line_of(&shown, line);
+    Some(Verdict::No { line, why })
 }
 
 // The line to which a judgement belongs, where this line completes what is judged: the first of a

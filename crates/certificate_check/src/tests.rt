@@ -3,7 +3,8 @@ ghost use Rattle.std.specs.Prelude.{◌<◌};
 use super::*;
 use crate::checker::check_lines;
 use certificate_reader::CertReader;
-use instance_store::{CustId, CustRow, Instance, LaneRow, NoMemory, SiteId, SiteRow};
+use example_instances::two_sites;
+use instance_store::{Instance, NoMemory};
 use location_terms::Claim;
 use plan_meaning::PlanFault;
 use shelf_port::MemShelf;
@@ -13,39 +14,9 @@ use std::test::Fail;
 // How much one read gives at most, where no test asks for less.
 const WIDE: usize = 65_536;
 
-// Two sites and three customers without demand, in millionths.
+// Two sites, of which any number may open.
 pub(crate) fn example(alloc: Global) -> Result<Instance, NoMemory> {
-    let near = LaneRow::from_slice(alloc, &[Some(1_000_000), Some(2_000_000), Some(9_000_000)])?;
-    let far = LaneRow::from_slice(alloc, &[Some(8_000_000), Some(7_000_000), Some(1_000_000)])?;
-    let sites = vec![in alloc;
-        SiteRow {
-            id: SiteId::new(1),
-            fixed: 10_000_000,
-            cap: None,
-            lanes: near
-        },
-        SiteRow {
-            id: SiteId::new(2),
-            fixed: 12_000_000,
-            cap: None,
-            lanes: far
-        },
-    ]?;
-    let custs = vec![in alloc;
-        CustRow {
-            id: CustId::new(1),
-            demand: 0
-        },
-        CustRow {
-            id: CustId::new(2),
-            demand: 0
-        },
-        CustRow {
-            id: CustId::new(3),
-            demand: 0
-        },
-    ]?;
-    Instance::from_parts(alloc, 0, 3_000, 3, 4, custs, sites)
+    two_sites(alloc, 0, 3_000)
 }
 
 // The line of this number of the certificate that site 1 alone, at 22, is best.

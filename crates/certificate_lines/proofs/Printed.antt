@@ -1,24 +1,24 @@
--- The lines of a text and its pieces, and the lines of a certificate's text, which have no line feed in them.
-use Rattle.std.proofs.Common.{◌≡◌, ℕ, true, false, ◌==◌, not, List, [], ◌∷◌, ◌++◌, length, refl, sym, ap, ◌∙◌, inl, inr, append_assoc, Option, Some, None}
-use Rattle.std.specs.Prelude.{All, map, codes, ℤ, pos}
+-- The lines of a text and its pieces; a line that is read has no line feed in it.
+use Rattle.std.proofs.Common.{◌≡◌, ℕ, true, false, ◌==◌, not, List, [], ◌∷◌, ◌++◌, length, Some, refl, sym, ap, ◌∙◌, subst, inl, inr, append_assoc}
+use Rattle.std.specs.Prelude.{All, ℤ, codes, Ok}
 use Rattle.std.specs.List.{list_all, join_with_byte, slice_split}
-use Rattle.std.proofs.lemmas.Bool.{cases_Bool, and_parts, and_from, eqb-true, not-true, true≢false}
+use Rattle.std.proofs.lemmas.Bool.{cases_Bool, and_parts, eqb-true, not-true, true≢false}
 use Rattle.std.proofs.lemmas.List.{append-nil}
 use Rattle.std.proofs.lemmas.List.Elements.{All-nil, All-cons, All-head, All-tail, All-append}
 use Rattle.std.proofs.lemmas.List.Splits.{join_with_byte-slice_split, slice_split_at}
-use Rattle.number_words.specs.Line.{is_blank, is_line_feed}
-use Rattle.number_words.specs.Line.{is_word, spaced}
-use Rattle.number_words.specs.Number.{number_text}
-use Rattle.number_words.proofs.Lines.{is_word-number_text, is_word-micro_text}
+use Rattle.number_words.specs.Line.{is_blank, is_line_feed, is_word, spaced}
 use Rattle.location_terms.specs.declared.claim.Claim.{Claim}
-use Rattle.location_terms.specs.declared.claim.Claim.TheVariants.{Optimal, Infeasible, Bracket}
 use Rattle.location_terms.specs.Instance.{Instance}
-use Rattle.location_terms.specs.Plan.{Plan}
-use Rattle.location_terms.specs.Box.{must_open, must_close}
-use Rattle.location_terms.specs.Bound.{Duals}
-use Rattle.location_terms.specs.Tree.{Node, Leaf, OnSite, OnLane}
-use Rattle.location_terms.specs.Certificate.{Certificate}
-use Rattle.certificate_lines.specs.Text.{counts_line, is_all_free, ids_where, header_words, sizes_line, status_lines, claim_words, claim_line, plan_lines, priced, leaf_lines, node_lines, certificate_lines, text_of_lines}
+use Rattle.location_terms.specs.Box.{Path, must_open, must_close}
+use Rattle.certificate_lines.specs.Shape.{Shape, row, any_count, just, even_count, words_of_shape}
+use Rattle.certificate_lines.specs.Text.{claim_words, text_of_lines}
+use Rattle.certificate_lines.specs.Due.{Due, HeaderDue, SizesDue, MustOpenDue, MustClosedDue, ClaimDue, OpenDue, ServeDue, NodeDue, ValuesDue, PricesDue, EndDue, NothingDue, Shown, NothingShown}
+use Rattle.certificate_lines.specs.Lines.{Said, then_due, read_shape, header_shape, sizes_shape, sizes_said, status_said, open_said, serve_said, site_shape, lane_shape, leaf_shape, site_said, lane_said, leaf_said, values_said, pairs_of, prices_said, read_line}
+use Rattle.certificate_lines.specs.Follow.{follow}
+use Rattle.certificate_lines.proofs.Shapes.{IsText, has_words, words-of_shape, shape_text, text_or}
+use Rattle.certificate_lines.proofs.ClaimWords.{are_words, claim-is}
+use Rattle.certificate_lines.proofs.LineSpelling.{header-words}
+use Rattle.certificate_lines.proofs.Following.{first_read}
 
 -- bytes without a line feed
 abbrev pub IsLine : List ℕ → Type 0
@@ -67,77 +67,42 @@ words_are_line (w ∷ v ∷ ws) words =
     let both = and_parts (is_word w) (list_all is_word (v ∷ ws)) words in
     All-append (λ b. is_line_feed b ≡ false) w (32 ∷ spaced (v ∷ ws)) (parts_of_word w (and_parts _ _ both.0).1) (All-cons (λ b. is_line_feed b ≡ false) 32 (spaced (v ∷ ws)) refl (words_are_line (v ∷ ws) both.1))
 
--- a word and then numbers
-counts_words : (ns : List ℕ) → list_all is_word (map (λ n. number_text (pos n)) ns) ≡ true
-counts_words [] = refl
-counts_words (n ∷ ns) = and_from _ _ (is_word-number_text (pos n)) (counts_words ns)
+-- the text of a shape's numbers is a line
+text_is_line : (shape : Shape) (line : List ℕ) (say : List ℤ → Said) (read : Due × Shown) → has_words shape ≡ true → IsText shape line say read → IsLine line
+text_is_line shape line say read words t = subst IsLine (sym t.text) (words_are_line (words_of_shape shape t.zs) (words-of_shape shape t.zs words))
 
-counts_are_line : (word : List ℕ) (ns : List ℕ) → is_word word ≡ true → IsLine (counts_line word ns)
-counts_are_line word ns is = words_are_line (word ∷ map (λ n. number_text (pos n)) ns) (and_from _ _ is (counts_words ns))
+shape_is_line : (shape : Shape) (line : List ℕ) (say : List ℤ → Said) (read : Due × Shown) → has_words shape ≡ true → read_shape shape line say ≡ Ok read → IsLine line
+shape_is_line shape line say read words e = text_is_line shape line say read words (shape_text shape line say read e)
 
-numbers_words : (zs : List ℤ) → list_all is_word (map number_text zs) ≡ true
-numbers_words [] = refl
-numbers_words (z ∷ zs) = and_from _ _ (is_word-number_text z) (numbers_words zs)
-
-claim_are_words : (claim : Claim) → list_all is_word (claim_words claim) ≡ true
-claim_are_words (Optimal cost) = and_from _ _ refl (and_from _ _ (is_word-micro_text cost) refl)
-claim_are_words Infeasible = refl
-claim_are_words (Bracket low None) = and_from _ _ refl (and_from _ _ (is_word-micro_text low) refl)
-claim_are_words (Bracket low (Some high)) = and_from _ _ refl (and_from _ _ (is_word-micro_text low) (and_from _ _ (is_word-micro_text high) refl))
-
-header_are_words : (I : Instance) → list_all is_word (header_words I) ≡ true
-header_are_words I =
-    elim (cases_Bool (is_all_free I)) [
-      | inl free ↦ rw free refl
-      | inr some ↦ rw some refl
+node_is_line : (I : Instance) (claim : Claim) (path : Path) (line : List ℕ) (read : Due × Shown) → read_line I (NodeDue claim path) line ≡ Ok read → IsLine line
+node_is_line I claim path line read e =
+    elim (text_or site_shape line (site_said I claim path) _ read e) [
+      | inl t ↦ text_is_line site_shape line (site_said I claim path) read refl t
+      | inr other ↦ elim (text_or lane_shape line (lane_said I claim path) _ read other) [
+        | inl t ↦ text_is_line lane_shape line (lane_said I claim path) read refl t
+        | inr last ↦ shape_is_line leaf_shape line (leaf_said claim path) read refl last
+      ]
     ]
 
-status_are_lines : (I : Instance) → All IsLine (status_lines I)
-status_are_lines I =
-    let opened = counts_line (codes "must-open") (ids_where must_open I) in
-    let closed = counts_line (codes "must-closed") (ids_where must_close I) in
-    elim (cases_Bool (is_all_free I)) [
-      | inl free ↦ rw free (All-nil IsLine)
-      | inr some ↦ rw some (All-cons IsLine opened (closed ∷ []) (counts_are_line (codes "must-open") (ids_where must_open I) refl) (All-cons IsLine closed [] (counts_are_line (codes "must-closed") (ids_where must_close I) refl) (All-nil IsLine)))
-    ]
+read_is_line : (I : Instance) (due : Due) (line : List ℕ) (read : Due × Shown) → read_line I due line ≡ Ok read → IsLine line
+read_is_line I HeaderDue line read e = shape_is_line (header_shape I) line _ read (header-words I) e
+read_is_line I SizesDue line read e = shape_is_line sizes_shape line (sizes_said I) read refl e
+read_is_line I MustOpenDue line read e = shape_is_line (row (codes "must-open") any_count) line (status_said I must_open MustClosedDue) read refl e
+read_is_line I MustClosedDue line read e = shape_is_line (row (codes "must-closed") any_count) line (status_said I must_close ClaimDue) read refl e
+read_is_line I ClaimDue line read e =
+    let spells = claim-is line read e in
+    subst IsLine (sym spells.2) (words_are_line (codes "claim" ∷ claim_words spells.0) (are_words spells.0))
+read_is_line I (OpenDue claim) line read e = shape_is_line (row (codes "open") any_count) line (open_said I claim) read refl e
+read_is_line I (ServeDue claim sites) line read e = shape_is_line (row (codes "serve") (just (length I.customers))) line (serve_said I claim sites) read refl e
+read_is_line I (NodeDue claim path) line read e = node_is_line I claim path line read e
+read_is_line I (ValuesDue claim path q nu) line read e = shape_is_line (row (codes "v") (just (length I.customers))) line (values_said claim path q nu) read refl e
+read_is_line I (PricesDue claim path q nu v) line read e = shape_is_line (row (codes "u") even_count) line (λ zs. prices_said I claim path q nu v (pairs_of zs)) read refl e
+read_is_line I (EndDue claim) line read e = shape_is_line (row (codes "end") (just 0)) line (λ zs. then_due (NothingDue claim) NothingShown) read refl e
+read_is_line I (NothingDue claim) line read e = absurd (cc)
 
-plan_are_lines : (plan : Option Plan) → All IsLine (plan_lines plan)
-plan_are_lines None = All-nil IsLine
-plan_are_lines (Some P) =
-    let serve = counts_line (codes "serve") (map (λ v. v.1) P.serves) in
-    All-cons IsLine (counts_line (codes "open") P.sites) (serve ∷ []) (counts_are_line (codes "open") P.sites refl)
-    (All-cons IsLine serve [] (counts_are_line (codes "serve") (map (λ v. v.1) P.serves) refl) (All-nil IsLine))
-
-leaf_are_lines : (sites : List ℕ) (d : Duals) → All IsLine (leaf_lines sites d)
-leaf_are_lines sites d =
-    let leaf = codes "leaf" ∷ number_text (pos d.q) ∷ number_text d.nu ∷ [] in
-    let values = codes "v" ∷ map number_text d.v in
-    let prices = counts_line (codes "u") (priced sites d.u) in
-    All-cons IsLine (spaced leaf) (spaced values ∷ prices ∷ []) (words_are_line leaf (and_from _ _ refl (and_from _ _ (is_word-number_text (pos d.q)) (and_from _ _ (is_word-number_text d.nu) refl))))
-    (All-cons IsLine (spaced values) (prices ∷ []) (words_are_line values (and_from _ _ refl (numbers_words d.v)))
-    (All-cons IsLine prices [] (counts_are_line (codes "u") (priced sites d.u) refl) (All-nil IsLine)))
-
-node_are_lines : (sites : List ℕ) (t : Node) → All IsLine (node_lines sites t)
-node_are_lines sites (Leaf d) = leaf_are_lines sites d
-node_are_lines sites (OnSite s a b) =
-    All-cons IsLine (counts_line (codes "site") (s ∷ [])) (node_lines sites a ++ node_lines sites b) (counts_are_line (codes "site") (s ∷ []) refl)
-    (All-append IsLine (node_lines sites a) (node_lines sites b) (node_are_lines sites a) (node_are_lines sites b))
-node_are_lines sites (OnLane s c a b) =
-    All-cons IsLine (counts_line (codes "lane") (s ∷ c ∷ [])) (node_lines sites a ++ node_lines sites b) (counts_are_line (codes "lane") (s ∷ c ∷ []) refl)
-    (All-append IsLine (node_lines sites a) (node_lines sites b) (node_are_lines sites a) (node_are_lines sites b))
-
--- no line of a certificate's text has a line feed in it
-pub certificate_are_lines : (I : Instance) (cert : Certificate) → All IsLine (certificate_lines I cert)
-certificate_are_lines I cert =
-    let nodes = node_lines cert.tree.sites cert.tree.root in
-    let from_nodes = nodes ++ codes "end" ∷ [] in
-    let from_plan = plan_lines cert.plan ++ from_nodes in
-    let from_claim = claim_line cert.claim ∷ from_plan in
-    let from_statuses = status_lines I ++ from_claim in
-    let sizes = codes "sites" ∷ number_text (pos (length I.sites)) ∷ codes "customers" ∷ number_text (pos (length I.customers)) ∷ [] in
-    let ended : All IsLine from_nodes = All-append IsLine nodes (codes "end" ∷ []) (node_are_lines cert.tree.sites cert.tree.root) (All-cons IsLine (codes "end") [] (parts_of_word (codes "end") refl) (All-nil IsLine)) in
-    let planned : All IsLine from_plan = All-append IsLine (plan_lines cert.plan) from_nodes (plan_are_lines cert.plan) ended in
-    let claimed : All IsLine from_claim = All-cons IsLine (claim_line cert.claim) from_plan (words_are_line (codes "claim" ∷ claim_words cert.claim) (and_from _ _ refl (claim_are_words cert.claim))) planned in
-    let stated : All IsLine from_statuses = All-append IsLine (status_lines I) from_claim (status_are_lines I) claimed in
-    All-cons IsLine (spaced (header_words I)) (sizes_line I ∷ from_statuses) (words_are_line (header_words I) (header_are_words I))
-    (All-cons IsLine (sizes_line I) from_statuses (words_are_line sizes (and_from _ _ refl (and_from _ _ (is_word-number_text (pos (length I.sites))) (and_from _ _ refl (and_from _ _ (is_word-number_text (pos (length I.customers))) refl))))) stated)
+-- no line that is followed has a line feed in it
+pub followed_are_lines : (I : Instance) (due end : Due) (lines : List (List ℕ)) (all : List Shown) → follow I due lines ≡ Some (end, all) → All IsLine lines
+followed_are_lines I due end [] all e = All-nil IsLine
+followed_are_lines I due end (line ∷ lines) all e =
+    let first = first_read I due line lines end all e in
+    All-cons IsLine line lines (read_is_line I due line (first.next, first.shown) first.reads) (followed_are_lines I first.next end lines first.rest first.follows)

@@ -1,78 +1,138 @@
 -- The text of a certificate is read without a fault, to its end, and shows the certificate.
-use Rattle.std.proofs.Common.{◌≡◌, ℕ, List, [], ◌∷◌, ◌++◌, refl, sym, ap, ◌∙◌, subst, inl, inr, Option, Some, None}
-use Rattle.std.specs.Prelude.{codes, map}
+use Rattle.std.proofs.Common.{◌≡◌, ℕ, ◌+◌, List, [], ◌∷◌, ◌++◌, length, refl, sym, ap, ◌∙◌, subst, inl, inr, arith, Option, Some, None}
+use Rattle.std.specs.Prelude.{All, Contains, Ok, codes, map, pos, zip}
 use Rattle.std.proofs.lemmas.Bool.{cases_Bool, true≢false}
-use Rattle.std.proofs.lemmas.List.{append-nil}
+use Rattle.std.proofs.lemmas.List.{append-nil, length-append, length-map, get_or_append_left, get_or-append-add}
+use Rattle.std.proofs.lemmas.List.Elements.{All-map}
 use Rattle.location_terms.specs.declared.claim.Claim.{Claim}
 use Rattle.location_terms.specs.declared.claim.Claim.TheVariants.{Optimal, Infeasible, Bracket}
-use Rattle.location_terms.specs.Instance.{Instance, IsValid, customer_ids}
+use Rattle.location_terms.specs.declared.decision.Decision.{Decision}
+use Rattle.location_terms.specs.declared.decision.Decision.TheVariants.{Opened, Closed, Yes, No}
+use Rattle.location_terms.specs.Instance.{Instance, IsValid, site_ids, customer_ids}
 use Rattle.location_terms.specs.Plan.{Plan}
-use Rattle.location_terms.specs.Box.{must_open, must_close}
-use Rattle.location_terms.specs.Tree.{SplitsAmong}
-use Rattle.location_terms.specs.Certificate.{Certificate}
-use Rattle.branch_tree.specs.Walk.{turned}
-use Rattle.certificate_lines.specs.Text.{is_all_free, ids_where, counts_line, sizes_line, status_lines, plan_lines, node_lines, claim_line, certificate_lines}
-use Rattle.certificate_lines.specs.Due.{HeaderDue, MustOpenDue, ClaimDue, OpenDue, NodeDue, EndDue, NothingDue, NothingShown, PlanShown, behind_claim}
-use Rattle.certificate_lines.specs.Lines.{behind_sizes}
-use Rattle.certificate_lines.specs.Follow.{follow, cost_claimed, IsSpellable, HasPlanWhere, HasText, plan_shown, nodes_told, told_by}
-use Rattle.certificate_lines.proofs.ReadBackFollow.{after, after-nothing, IsRead, follow-read, follow-silent}
-use Rattle.certificate_lines.proofs.ReadBackHead.{header-read, sizes-read, must_open-read, must_closed-read, claim-read}
-use Rattle.certificate_lines.proofs.ReadBackPlan.{open-read, serve-read}
-use Rattle.certificate_lines.proofs.ReadBackTree.{nodes_back}
+use Rattle.location_terms.specs.Box.{Path, must_open, must_close}
+use Rattle.location_terms.specs.Bound.{Duals}
+use Rattle.location_terms.specs.Fit.{DualsFit}
+use Rattle.location_terms.specs.Tree.{Node, Leaf, OnSite, OnLane, SplitsAmong, leaves_below}
+use Rattle.location_terms.specs.Certificate.{Certificate, cost_claimed}
+use Rattle.location_terms.proofs.Places.{length-customer_ids}
+use Rattle.branch_tree.specs.Walk.{second_child, turned}
+use Rattle.branch_tree.proofs.Ahead.{turned_first, turned_second, turned_root}
+use Rattle.number_words.specs.Line.{spaced}
+use Rattle.number_words.specs.Number.{number_text}
+use Rattle.certificate_lines.specs.Text.{is_all_free, ids_where, counts_line, header_words, sizes_line, status_lines, claim_line, plan_lines, priced, leaf_lines, node_lines, certificate_lines}
+use Rattle.certificate_lines.specs.Due.{Due, HeaderDue, SizesDue, MustOpenDue, MustClosedDue, ClaimDue, OpenDue, ServeDue, NodeDue, ValuesDue, PricesDue, EndDue, NothingDue, Shown, NothingShown, PlanShown, SiteShown, LaneShown, LeafShown, behind_claim, behind_leaf, node_or_end}
+use Rattle.certificate_lines.specs.Lines.{behind_sizes, plan_from}
+use Rattle.certificate_lines.specs.Follow.{shown_list, follow, IsSpellable, HasPlanWhere, HasText, plan_shown, nodes_shown, shown_by}
+use Rattle.certificate_lines.proofs.Following.{follow-line, follow-append}
+use Rattle.certificate_lines.proofs.LineSpelling.{on_site, on_lane, on_leaf, IsSpelled, line-read}
 
--- the two lines of statuses
-both_back : (I : Instance) (lines : List (List ℕ)) → IsValid I → follow I MustOpenDue (counts_line (codes "must-open") (ids_where must_open I) ∷ counts_line (codes "must-closed") (ids_where must_close I) ∷ lines) ≡ follow I ClaimDue lines
-both_back I lines valid =
-    follow-silent (must_open-read I valid) (counts_line (codes "must-closed") (ids_where must_close I) ∷ lines)
-    ∙ follow-silent (must_closed-read I valid) lines
+-- a line that is spelled, in front of lines that are read
+spelled_first : (I : Instance) (due next end : Due) (line : List ℕ) (lines : List (List ℕ)) (shown : Shown) (all : List Shown) → IsValid I → IsSpelled I due line (next, shown) → follow I next lines ≡ Some (end, all) → follow I due (line ∷ lines) ≡ Some (end, shown_list shown ++ all)
+spelled_first I due next end line lines shown all valid spells e = follow-line I due next end line lines shown all (line-read I due line (next, shown) valid spells) e
 
 -- the lines of statuses, where there are any
-statuses_back : (I : Instance) (lines : List (List ℕ)) → IsValid I → follow I (behind_sizes I) (status_lines I ++ lines) ≡ follow I ClaimDue lines
-statuses_back I lines valid =
+both_back : (I : Instance) → IsValid I → follow I MustOpenDue (counts_line (codes "must-open") (ids_where must_open I) ∷ counts_line (codes "must-closed") (ids_where must_close I) ∷ []) ≡ Some (ClaimDue, [])
+both_back I valid =
+    let closed = counts_line (codes "must-closed") (ids_where must_close I) in
+    spelled_first I MustOpenDue MustClosedDue ClaimDue (counts_line (codes "must-open") (ids_where must_open I)) (closed ∷ []) NothingShown [] valid (refl, refl)
+    (spelled_first I MustClosedDue ClaimDue ClaimDue closed [] NothingShown [] valid (refl, refl) refl)
+
+statuses_back : (I : Instance) → IsValid I → follow I (behind_sizes I) (status_lines I) ≡ Some (ClaimDue, [])
+statuses_back I valid =
     elim (cases_Bool (is_all_free I)) [
       | inl free ↦ rw free refl
-      | inr some ↦ rw some (both_back I lines valid)
+      | inr some ↦ rw some (both_back I valid)
     ]
 
--- the plan of a cost that is claimed
-plan_back : (I : Instance) (claim : Claim) (P : Plan) (lines : List (List ℕ)) → IsValid I → IsSpellable I P → follow I (OpenDue claim) (plan_lines (Some P) ++ lines) ≡ after (PlanShown claim P ∷ []) (follow I (NodeDue claim []) lines)
-plan_back I claim P lines valid spell =
-    follow-silent (open-read I claim P valid spell) (counts_line (codes "serve") (map (λ v. v.1) P.serves) ∷ lines)
-    ∙ follow-read (serve-read I claim P valid spell) lines
+-- a plan is made of the sites and of the servers of the customers
+zip-parts : (vs : List (ℕ × ℕ)) → zip (map (λ v. v.0) vs) (map (λ v. v.1) vs) ≡ vs
+zip-parts [] = refl
+zip-parts (v ∷ vs) = ap (λ ws. v ∷ ws) (zip-parts vs)
+
+plan_from-servers : (I : Instance) (P : Plan) → IsSpellable I P → plan_from I P.sites (map (λ v. v.1) P.serves) ≡ P
+plan_from-servers I P spell =
+    let with_serves : List (ℕ × ℕ) → Plan = λ vs. record { sites = P.sites; serves = vs } in
+    ap with_serves (ap (λ ks. zip ks (map (λ v. v.1) P.serves)) (sym spell.each_once) ∙ zip-parts P.serves)
+
+both_of_plan : (I : Instance) (claim : Claim) (P : Plan) → IsValid I → IsSpellable I P → follow I (OpenDue claim) (plan_lines (Some P)) ≡ Some (NodeDue claim [], PlanShown claim P ∷ [])
+both_of_plan I claim P valid spell =
+    let servers : List ℕ = map (λ v. v.1) P.serves in
+    let long : length servers ≡ length I.customers = length-map P.serves (λ v. v.1) ∙ sym (length-map P.serves (λ v. v.0)) ∙ ap length spell.each_once ∙ length-customer_ids I in
+    let serve = counts_line (codes "serve") servers in
+    let says = ap (λ (Q : Plan). Ok (NodeDue claim [], PlanShown claim Q)) (plan_from-servers I P spell) in
+    spelled_first I (OpenDue claim) (ServeDue claim P.sites) (NodeDue claim []) (counts_line (codes "open") P.sites) (serve ∷ []) NothingShown (PlanShown claim P ∷ []) valid (P.sites, spell.plan.sites_rise, spell.sites_known, refl, refl)
+    (spelled_first I (ServeDue claim P.sites) (NodeDue claim []) (NodeDue claim []) serve [] (PlanShown claim P) [] valid (servers, long, All-map (Contains (site_ids I)) (λ v. v.1) P.serves spell.servers_known, refl, says) refl)
 
 -- the plan, where the claim has a cost to show
-shown_back : (I : Instance) (claim : Claim) (plan : Option Plan) (lines : List (List ℕ)) → IsValid I → HasPlanWhere I (cost_claimed claim) plan → follow I (behind_claim claim) (plan_lines plan ++ lines) ≡ after (plan_shown claim plan) (follow I (NodeDue claim []) lines)
-shown_back I (Optimal cost) None lines valid has = absurd has
-shown_back I (Optimal cost) (Some P) lines valid has = plan_back I (Optimal cost) P lines valid has
-shown_back I Infeasible None lines valid has = sym (after-nothing (follow I (NodeDue Infeasible []) lines))
-shown_back I Infeasible (Some P) lines valid has = absurd (true≢false has)
-shown_back I (Bracket low None) None lines valid has = sym (after-nothing (follow I (NodeDue (Bracket low None) []) lines))
-shown_back I (Bracket low None) (Some P) lines valid has = absurd (true≢false has)
-shown_back I (Bracket low (Some high)) None lines valid has = absurd has
-shown_back I (Bracket low (Some high)) (Some P) lines valid has = plan_back I (Bracket low (Some high)) P lines valid has
+plan_back : (I : Instance) (claim : Claim) (plan : Option Plan) → IsValid I → HasPlanWhere I (cost_claimed claim) plan → follow I (behind_claim claim) (plan_lines plan) ≡ Some (NodeDue claim [], plan_shown claim plan)
+plan_back I (Optimal cost) None valid has = absurd has
+plan_back I (Optimal cost) (Some P) valid has = both_of_plan I (Optimal cost) P valid has
+plan_back I Infeasible None valid has = refl
+plan_back I Infeasible (Some P) valid has = absurd (true≢false has)
+plan_back I (Bracket low None) None valid has = refl
+plan_back I (Bracket low None) (Some P) valid has = absurd (true≢false has)
+plan_back I (Bracket low (Some high)) None valid has = absurd has
+plan_back I (Bracket low (Some high)) (Some P) valid has = both_of_plan I (Bracket low (Some high)) P valid has
 
-end-read : (I : Instance) (claim : Claim) → IsRead I (EndDue claim) (codes "end") (NothingDue claim) NothingShown
-end-read I claim = record { said = refl }
+-- a leaf is read from its three lines
+leaf_back : (I : Instance) (claim : Claim) (path : Path) (d : Duals) → IsValid I → DualsFit I d → follow I (NodeDue claim path) (leaf_lines (site_ids I) d) ≡ Some (behind_leaf claim path, LeafShown claim path d ∷ [])
+leaf_back I claim path d valid fit =
+    let end = behind_leaf claim path in
+    let shown = LeafShown claim path d in
+    let values = spaced (codes "v" ∷ map number_text d.v) in
+    let prices = counts_line (codes "u") (priced (site_ids I) d.u) in
+    spelled_first I (NodeDue claim path) (ValuesDue claim path d.q d.nu) end (spaced (codes "leaf" ∷ number_text (pos d.q) ∷ number_text d.nu ∷ [])) (values ∷ prices ∷ []) NothingShown (shown ∷ []) valid (on_leaf d.q d.nu fit.in_limits.scale fit.in_limits.count_price refl refl)
+    (spelled_first I (ValuesDue claim path d.q d.nu) (PricesDue claim path d.q d.nu d.v) end values (prices ∷ []) NothingShown (shown ∷ []) valid (d.v, fit.of_instance.customers, fit.in_limits.values, refl, refl)
+    (spelled_first I (PricesDue claim path d.q d.nu d.v) end end prices [] shown [] valid (d.u, record { long = fit.of_instance.sites; small = fit.in_limits.multipliers; unpriced = fit.of_instance.unpriced }, (λ v. refl), refl) refl))
 
--- the tree and the end
-tree_back : (I : Instance) (cert : Certificate) → IsValid I → HasText I cert → follow I (NodeDue cert.claim []) (node_lines cert.tree.sites cert.tree.root ++ codes "end" ∷ []) ≡ Some (NothingDue cert.claim, nodes_told cert.claim [] cert.tree.root)
-unfolding turned
+-- what is read of a node below a path
+abbrev IsBack : Instance → Claim → Path → Node → Type 0
+IsBack I claim path t = follow I (NodeDue claim path) (node_lines (site_ids I) t) ≡ Some (node_or_end claim (turned path), nodes_shown claim path t)
+
+-- the two children of a split
+children : (I : Instance) (claim : Claim) (path : Path) (first second : Decision) (a b : Node) → second_child first ≡ Some second → second_child second ≡ None → IsBack I claim (path ++ first ∷ []) a → IsBack I claim (path ++ second ∷ []) b
+    → follow I (NodeDue claim (path ++ first ∷ [])) (node_lines (site_ids I) a ++ node_lines (site_ids I) b) ≡ Some (node_or_end claim (turned path), nodes_shown claim (path ++ first ∷ []) a ++ nodes_shown claim (path ++ second ∷ []) b)
+children I claim path first second a b goes ends on_a on_b =
+    let told_b = nodes_shown claim (path ++ second ∷ []) b in
+    follow-append I (NodeDue claim (path ++ first ∷ [])) (NodeDue claim (path ++ second ∷ [])) (node_or_end claim (turned path)) (node_lines (site_ids I) a) (node_lines (site_ids I) b) (nodes_shown claim (path ++ first ∷ []) a) told_b
+    (on_a ∙ ap (λ o. Some (node_or_end claim o, nodes_shown claim (path ++ first ∷ []) a)) (turned_first first second path goes))
+    (on_b ∙ ap (λ o. Some (node_or_end claim o, told_b)) (turned_second second path ends))
+
+-- leaves that fit fit in both parts of their list
+fits_parts : (I : Instance) (xs ys : List (Path × Duals)) → All (λ l. DualsFit I l.1) (xs ++ ys) → All (λ l. DualsFit I l.1) xs × All (λ l. DualsFit I l.1) ys
+fits_parts I xs ys fit = (λ k d within. subst (λ l. DualsFit I l.1) (get_or_append_left xs ys d k within) (fit k d (omega (arith, length-append xs ys))), λ k d within. subst (λ l. DualsFit I l.1) (get_or-append-add xs ys k d) (fit (length xs + k) d (omega (arith, length-append xs ys))))
+
+nodes_back : (I : Instance) (claim : Claim) (path : Path) (t : Node) → IsValid I → SplitsAmong (site_ids I) (customer_ids I) t → All (λ l. DualsFit I l.1) (leaves_below path t) → IsBack I claim path t
+nodes_back I claim path (Leaf d) valid splits fit = leaf_back I claim path d valid (fit 0 (path, d) (omega arith))
+nodes_back I claim path (OnSite s a b) valid splits fit =
+    let parts = fits_parts I (leaves_below (path ++ Closed s ∷ []) a) (leaves_below (path ++ Opened s ∷ []) b) fit in
+    spelled_first I (NodeDue claim path) (NodeDue claim (path ++ Closed s ∷ [])) (node_or_end claim (turned path)) (counts_line (codes "site") (s ∷ [])) (node_lines (site_ids I) a ++ node_lines (site_ids I) b) (SiteShown s) (nodes_shown claim (path ++ Closed s ∷ []) a ++ nodes_shown claim (path ++ Opened s ∷ []) b) valid (on_site s splits.0 refl refl)
+    (children I claim path (Closed s) (Opened s) a b refl refl (nodes_back I claim (path ++ Closed s ∷ []) a valid splits.1 parts.0) (nodes_back I claim (path ++ Opened s ∷ []) b valid splits.2 parts.1))
+nodes_back I claim path (OnLane s c a b) valid splits fit =
+    let parts = fits_parts I (leaves_below (path ++ No s c ∷ []) a) (leaves_below (path ++ Yes s c ∷ []) b) fit in
+    spelled_first I (NodeDue claim path) (NodeDue claim (path ++ No s c ∷ [])) (node_or_end claim (turned path)) (counts_line (codes "lane") (s ∷ c ∷ [])) (node_lines (site_ids I) a ++ node_lines (site_ids I) b) (LaneShown s c) (nodes_shown claim (path ++ No s c ∷ []) a ++ nodes_shown claim (path ++ Yes s c ∷ []) b) valid (on_lane s c splits.0 splits.1 refl refl)
+    (children I claim path (No s c) (Yes s c) a b refl refl (nodes_back I claim (path ++ No s c ∷ []) a valid splits.2 parts.0) (nodes_back I claim (path ++ Yes s c ∷ []) b valid splits.3 parts.1))
+
+-- the tree, and the last line behind it
+tree_back : (I : Instance) (cert : Certificate) → IsValid I → HasText I cert → follow I (NodeDue cert.claim []) (node_lines cert.tree.sites cert.tree.root ++ codes "end" ∷ []) ≡ Some (NothingDue cert.claim, nodes_shown cert.claim [] cert.tree.root)
 tree_back I cert valid has =
-    let splits = subst (λ ss. SplitsAmong ss (customer_ids I) cert.tree.root) has.stands.sites (subst (λ cs. SplitsAmong cert.tree.sites cs cert.tree.root) has.stands.customers has.tree.splits) in
-    ap (λ ss. follow I (NodeDue cert.claim []) (node_lines ss cert.tree.root ++ codes "end" ∷ [])) has.stands.sites
-    ∙ nodes_back I cert.claim [] cert.tree.root valid splits has.fit (codes "end" ∷ [])
-    ∙ ap (after (nodes_told cert.claim [] cert.tree.root)) (follow-silent (end-read I cert.claim) [])
-    ∙ ap (λ shown. Some (NothingDue cert.claim, shown)) (append-nil (nodes_told cert.claim [] cert.tree.root))
+    let claim = cert.claim in
+    let root = cert.tree.root in
+    let splits : SplitsAmong (site_ids I) (customer_ids I) root = subst (λ ss. SplitsAmong ss (customer_ids I) root) has.stands.sites (subst (λ cs. SplitsAmong cert.tree.sites cs root) has.stands.customers has.tree.splits) in
+    let nodes = nodes_back I claim [] root valid splits has.fit ∙ ap (λ o. Some (node_or_end claim o, nodes_shown claim [] root)) turned_root in
+    ap (λ ss. follow I (NodeDue claim []) (node_lines ss root ++ codes "end" ∷ [])) has.stands.sites
+    ∙ follow-append I (NodeDue claim []) (EndDue claim) (NothingDue claim) (node_lines (site_ids I) root) (codes "end" ∷ []) (nodes_shown claim [] root) [] nodes
+    (spelled_first I (EndDue claim) (NothingDue claim) (NothingDue claim) (codes "end") [] NothingShown [] valid (refl, refl) refl)
+    ∙ ap (λ shown. Some (NothingDue claim, shown)) (append-nil (nodes_shown claim [] root))
 
-pub read_back : (I : Instance) (cert : Certificate) → IsValid I → HasText I cert → follow I HeaderDue (certificate_lines I cert) ≡ Some (NothingDue cert.claim, told_by cert)
+pub read_back : (I : Instance) (cert : Certificate) → IsValid I → HasText I cert → follow I HeaderDue (certificate_lines I cert) ≡ Some (NothingDue cert.claim, shown_by cert)
 read_back I cert valid has =
+    let end = NothingDue cert.claim in
     let nodes = node_lines cert.tree.sites cert.tree.root ++ codes "end" ∷ [] in
-    let from_plan = plan_lines cert.plan ++ nodes in
-    let from_claim = claim_line cert.claim ∷ from_plan in
-    let from_statuses = status_lines I ++ from_claim in
-    follow-silent (header-read I) (sizes_line I ∷ from_statuses)
-    ∙ follow-silent (sizes-read I valid) from_statuses
-    ∙ statuses_back I from_claim valid
-    ∙ follow-silent (claim-read I cert.claim has.costs) from_plan
-    ∙ shown_back I cert.claim cert.plan nodes valid has.plan
-    ∙ ap (after (plan_shown cert.claim cert.plan)) (tree_back I cert valid has)
+    let from_claim = claim_line cert.claim ∷ (plan_lines cert.plan ++ nodes) in
+    let plan = follow-append I (behind_claim cert.claim) (NodeDue cert.claim []) end (plan_lines cert.plan) nodes (plan_shown cert.claim cert.plan) (nodes_shown cert.claim [] cert.tree.root) (plan_back I cert.claim cert.plan valid has.plan) (tree_back I cert valid has) in
+    let claim = spelled_first I ClaimDue (behind_claim cert.claim) end (claim_line cert.claim) (plan_lines cert.plan ++ nodes) NothingShown (shown_by cert) valid (cert.claim, has.costs, refl, refl) plan in
+    spelled_first I HeaderDue SizesDue end (spaced (header_words I)) (sizes_line I ∷ (status_lines I ++ from_claim)) NothingShown (shown_by cert) valid (refl, refl)
+    (spelled_first I SizesDue (behind_sizes I) end (sizes_line I) (status_lines I ++ from_claim) NothingShown (shown_by cert) valid (refl, refl)
+    (follow-append I (behind_sizes I) ClaimDue end (status_lines I) from_claim [] (shown_by cert) (statuses_back I valid) claim))

@@ -1,13 +1,13 @@
 -- Which line of a certificate's text is due, and what a line shows.
-use Rattle.std.specs.Prelude.{◌≡◌, ℕ, ◌≤◌, List, [], length, All, Option, None, Some, ℤ, unsigned_abs}
+use Rattle.std.specs.Prelude.{◌≡◌, ℕ, ◌≤◌, List, [], length, All, Option, None, Some, is_some, ℤ, unsigned_abs, if◌then◌else◌}
 use Rattle.std.specs.List.Sorted.{IsStrictlyIncreasing}
 use Rattle.location_terms.specs.declared.claim.Claim.{Claim}
-use Rattle.location_terms.specs.declared.claim.Claim.TheVariants.{Optimal, Infeasible, Bracket}
 use Rattle.location_terms.specs.declared.limits.TheConstants.{MAX_SCALE, MAX_VALUE}
 use Rattle.location_terms.specs.Instance.{Instance}
 use Rattle.location_terms.specs.Plan.{Plan}
 use Rattle.location_terms.specs.Box.{Path}
 use Rattle.location_terms.specs.Bound.{Duals}
+use Rattle.location_terms.specs.Certificate.{cost_claimed}
 use Rattle.branch_tree.specs.Walk.{turned}
 
 -- The line that is due, with what the lines before it say. A node is due at a path, and once the tree is whole the end is.
@@ -30,12 +30,9 @@ pub data Shown : Type 0 where
 
 -- what is due behind the claim: a plan where the claim has a cost to show, else the tree
 abbrev pub behind_claim : Claim → Due
-behind_claim (Optimal cost) = OpenDue (Optimal cost)
-behind_claim Infeasible = NodeDue Infeasible []
-behind_claim (Bracket low None) = NodeDue (Bracket low None) []
-behind_claim (Bracket low (Some high)) = OpenDue (Bracket low (Some high))
+behind_claim claim = if is_some (cost_claimed claim) then OpenDue claim else NodeDue claim []
 
--- what is due behind a whole tree below a path: the next child that is left, or the end
+-- what is due where a tree below a path is whole: the node at the next path that is left, or the end where none is
 abbrev pub node_or_end : Claim → Option Path → Due
 node_or_end claim (Some path) = NodeDue claim path
 node_or_end claim None = EndDue claim

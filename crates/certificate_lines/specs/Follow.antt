@@ -9,19 +9,19 @@ use Rattle.location_terms.specs.Plan.{Plan, IsPlan, served}
 use Rattle.location_terms.specs.Box.{Path}
 use Rattle.location_terms.specs.Fit.{DualsFit}
 use Rattle.location_terms.specs.Tree.{Node, Leaf, OnSite, OnLane, IsTree, StandsOn, leaves_of}
-use Rattle.location_terms.specs.Certificate.{Certificate}
+use Rattle.location_terms.specs.Certificate.{Certificate, cost_claimed}
 use Rattle.certificate_lines.specs.Due.{Due, Shown, NothingShown, PlanShown, SiteShown, LaneShown, LeafShown}
 use Rattle.certificate_lines.specs.Lines.{Said, read_line}
 
 -- what is to be judged or told of a line, if anything
-abbrev pub told : Shown → List Shown
-told NothingShown = []
-told shown = shown ∷ []
+abbrev pub shown_list : Shown → List Shown
+shown_list NothingShown = []
+shown_list shown = shown ∷ []
 
--- with what the lines behind a line come to
+-- what a line shows, before what the lines behind it come to
 abbrev pub shown_first : Shown → Option (Due × List Shown) → Option (Due × List Shown)
 shown_first shown None = None
-shown_first shown (Some (due, rest)) = Some (due, told shown ++ rest)
+shown_first shown (Some (due, rest)) = Some (due, shown_list shown ++ rest)
 
 abbrev pub follow_said : Said → (Due → Option (Due × List Shown)) → Option (Due × List Shown)
 follow_said (Err kind) follows = None
@@ -32,19 +32,13 @@ abbrev pub follow : Instance → Due → List (List ℕ) → Option (Due × List
 follow I due [] = Some (due, [])
 follow I due (line ∷ lines) = follow_said (read_line I due line) (λ next. follow I next lines)
 
--- what a plan of the claim is to cost, where the claim has a plan
-abbrev pub cost_claimed : Claim → Option ℕ
-cost_claimed (Optimal cost) = Some cost
-cost_claimed Infeasible = None
-cost_claimed (Bracket low high) = high
-
 -- each cost of the claim is at most the limit
 abbrev pub HasSmallCosts : Claim → Type 0
 HasSmallCosts (Optimal cost) = cost ≤ MAX_COST
 HasSmallCosts Infeasible = Unit {0}
 HasSmallCosts (Bracket low high) = (low ≤ MAX_COST) × IfSome high (λ cost. cost ≤ MAX_COST)
 
--- a plan that can be spelled: it opens sites of the instance, and serves each customer from one of its sites
+-- a plan that can be spelled: it opens sites of the instance, and serves each customer from a site of the instance
 pub record IsSpellable (I : Instance) (P : Plan) : Type 0 where
   pub plan : IsPlan P
   pub sites_known : All (Contains (site_ids I)) P.sites
@@ -70,11 +64,11 @@ plan_shown claim None = []
 plan_shown claim (Some P) = PlanShown claim P ∷ []
 
 -- what the nodes below a path show, in preorder
-abbrev pub nodes_told : Claim → Path → Node → List Shown
-nodes_told claim path (Leaf d) = LeafShown claim path d ∷ []
-nodes_told claim path (OnSite s closed opened) = SiteShown s ∷ (nodes_told claim (path ++ Closed s ∷ []) closed ++ nodes_told claim (path ++ Opened s ∷ []) opened)
-nodes_told claim path (OnLane s c without using) = LaneShown s c ∷ (nodes_told claim (path ++ No s c ∷ []) without ++ nodes_told claim (path ++ Yes s c ∷ []) using)
+abbrev pub nodes_shown : Claim → Path → Node → List Shown
+nodes_shown claim path (Leaf d) = LeafShown claim path d ∷ []
+nodes_shown claim path (OnSite s closed opened) = SiteShown s ∷ (nodes_shown claim (path ++ Closed s ∷ []) closed ++ nodes_shown claim (path ++ Opened s ∷ []) opened)
+nodes_shown claim path (OnLane s c without using) = LaneShown s c ∷ (nodes_shown claim (path ++ No s c ∷ []) without ++ nodes_shown claim (path ++ Yes s c ∷ []) using)
 
 -- what a certificate shows
-abbrev pub told_by : Certificate → List Shown
-told_by cert = plan_shown cert.claim cert.plan ++ nodes_told cert.claim [] cert.tree.root
+abbrev pub shown_by : Certificate → List Shown
+shown_by cert = plan_shown cert.claim cert.plan ++ nodes_shown cert.claim [] cert.tree.root

@@ -1,9 +1,9 @@
 -- The definitions that the contracts cite.
 pub mod Due
 pub mod Follow
-pub mod Form
+pub mod Model
 pub mod Kind
 pub mod Head
 pub mod Lines
-pub mod Pass
+pub mod Shape
 pub mod Text

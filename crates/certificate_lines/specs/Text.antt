@@ -46,7 +46,7 @@ header_words I = codes "dualoc-certificate" ∷ (if is_all_free I then codes "1"
 abbrev pub sizes_line : Instance → List ℕ
 sizes_line I = spaced (codes "sites" ∷ number_text (pos (length I.sites)) ∷ codes "customers" ∷ number_text (pos (length I.customers)) ∷ [])
 
--- the lines of statuses, which stand only where some site has one
+-- the lines of statuses, which stand only where some site must be open or closed
 abbrev pub status_lines : Instance → List (List ℕ)
 status_lines I = if is_all_free I then [] else counts_line (codes "must-open") (ids_where must_open I) ∷ counts_line (codes "must-closed") (ids_where must_close I) ∷ []
 

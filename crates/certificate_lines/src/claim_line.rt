@@ -1,34 +1,34 @@
 //! The line of the claim.
 
 ghost use Rattle.std.specs.Prelude.{◌≡◌, ◌∷◌, ◌&&◌, ◌||◌, [], true, not, nat_le, option_map};
-ghost use Rattle.number_words.specs.Cost.{is_cost, cost_of};
+ghost use Rattle.number_words.specs.Cost.{is_cost, spelled_cost};
 ghost use Rattle.number_words.specs.Line.{words_of_line, is_spaced};
 ghost use Rattle.certificate_lines.specs.Due.{behind_claim};
-ghost use Rattle.certificate_lines.specs.Form.{due_of, Says};
+ghost use Rattle.certificate_lines.specs.Model.{due_of, AnswersDue};
 ghost use Rattle.certificate_lines.specs.Head.{cost_within, claim_within};
-ghost use Rattle.certificate_lines.specs.Lines.{args, begins, claim_in, has_plain_costs, has_small_costs, read_claim};
+ghost use Rattle.certificate_lines.specs.Lines.{behind_first, begins, claim_in, has_plain_costs, has_small_costs, read_claim};
 
-use crate::row::args;
-use crate::{CertKind, Form, LineFault};
+use crate::row::behind_first;
+use crate::{CertKind, Due, LineFault};
 use dual_value::Path;
 use location_terms::{Claim, MAX_COST};
 use number_words::{LineWords, cost, is_cost, is_plain_cost, is_spaced};
 use std::alloc::Global;
 
 /// Reads the claim.
-pub(crate) fn read_claim(alloc: Global, line: &[u8]) -> Result<Form, LineFault>
-    ensures { Says result (read_claim line.now) }
+pub(crate) fn read_claim(alloc: Global, line: &[u8]) -> Result<Due, LineFault>
+    ensures { AnswersDue result (read_claim line.now) }
 {
     if !begins(line, b"claim") {
         return Err(LineFault::Line(CertKind::BadLine));
     }
-    let Some(claim) = claim_in(args(line)) else {
+    let Some(claim) = claim_in(behind_first(line)) else {
         return Err(LineFault::Line(CertKind::BadLine));
     };
     if !is_plain(line) {
         return Err(LineFault::Line(CertKind::NotCanonical));
     }
-    if !has_small_costs(args(line)) {
+    if !has_small_costs(behind_first(line)) {
         return Err(LineFault::Line(CertKind::OutOfRange));
     }
     Ok(behind_claim(alloc, claim))
@@ -100,16 +100,16 @@ fn two_costs(kind: &[u8], low: &[u8], high: &[u8]) -> Option<Claim>
 
 fn cost_within(word: &[u8]) -> u64
     requires { is_cost word.now ≡ true }
-    ensures { result ≡ cost_within (cost_of word.now) }
+    ensures { result ≡ cost_within (spelled_cost word.now) }
 {
     cost(word).min(u128::from(MAX_COST) + 1) as u64
 }
 
 // Whether a line is spelled in the one way.
 fn is_plain(line: &[u8]) -> bool
-    ensures { result ≡ is_spaced line.now && has_plain_costs (args line.now) }
+    ensures { result ≡ is_spaced line.now && has_plain_costs (behind_first line.now) }
 {
-    is_spaced(line) && has_plain_costs(args(line))
+    is_spaced(line) && has_plain_costs(behind_first(line))
 }
 
 // Whether each cost among the words is spelled in the one way.
@@ -128,19 +128,18 @@ fn has_small_costs(mut words: LineWords<'_>) -> bool
 
 // Whether a word is no cost above the limit.
 fn is_small(word: &[u8]) -> bool
-    ensures { result ≡ not (is_cost word.now) || nat_le (cost_of word.now) MAX_COST }
+    ensures { result ≡ not (is_cost word.now) || nat_le (spelled_cost word.now) MAX_COST }
 {
     !is_cost(word) || cost(word) <= u128::from(MAX_COST)
 }
 
 // What is due behind the claim: a plan where the claim has a cost to show, else the tree.
-fn behind_claim(alloc: Global, claim: Claim) -> Form
+fn behind_claim(alloc: Global, claim: Claim) -> Due
     ensures { due_of result ≡ behind_claim claim }
 {
-    match claim {
-        Claim::Infeasible | Claim::Bracket { high: None, .. } => {
-            Form::Node(claim, Path::root(alloc))
-        }
-        Claim::Optimal(_) | Claim::Bracket { high: Some(_), .. } => Form::Open(claim),
+    if claim.cost().is_some() {
+        Due::Open(claim)
+    } else {
+        Due::Node(claim, Path::root(alloc))
     }
 }

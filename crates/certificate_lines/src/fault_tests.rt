@@ -3,7 +3,7 @@ use crate::head::{read_end, read_header, read_must_closed, read_must_open, read_
 use crate::leaf::{read_prices, read_values};
 use crate::node::read_node;
 use crate::plan_lines::{read_open, read_serve};
-use crate::{Form, LineFault, Shown};
+use crate::{Due, LeafHead, LineFault, Shown};
 use branch_tree::{Decision, Path};
 use instance_store::{CustRow, Instance, LaneRow, NoMemory, SiteRow};
 use location_terms::{Claim, CustId, SiteId};
@@ -45,17 +45,21 @@ pub(super) fn example(alloc: Global) -> Result<Instance, NoMemory> {
     Instance::from_parts(alloc, 1, 2, 8, 11, custs, sites)
 }
 
-pub(super) fn node(
-    alloc: Global,
-    inst: &Instance,
-    line: &[u8],
-) -> Result<(Form, Shown), LineFault> {
+pub(super) fn node(alloc: Global, inst: &Instance, line: &[u8]) -> Result<(Due, Shown), LineFault> {
     read_node(inst, Claim::Infeasible, Path::root(alloc), line)
 }
 
-pub(super) fn values(alloc: Global, inst: &Instance, line: &[u8]) -> Result<Form, LineFault> {
-    let path = Path::root(alloc);
-    read_values(alloc, inst, Claim::Infeasible, path, 1, -5, line)
+fn head(path: Path) -> LeafHead {
+    LeafHead {
+        claim: Claim::Infeasible,
+        path,
+        q: 1,
+        nu: -5,
+    }
+}
+
+pub(super) fn values(alloc: Global, inst: &Instance, line: &[u8]) -> Result<Due, LineFault> {
+    read_values(alloc, inst, head(Path::root(alloc)), line)
 }
 
 // The prices of a leaf in the box where site 3 is closed.
@@ -63,16 +67,15 @@ pub(super) fn prices(
     alloc: Global,
     inst: &Instance,
     line: &[u8],
-) -> Result<(Form, Shown), LineFault> {
+) -> Result<(Due, Shown), LineFault> {
     let mut path = Path::root(alloc);
     path.push(Decision::Closed(SiteId::new(3)))?;
-    let v = Vec::new(alloc);
-    read_prices(alloc, inst, Claim::Infeasible, path, 1, -5, v, line)
+    read_prices(alloc, inst, head(path), Vec::new(alloc), line)
 }
 
 // The lines that a text has, by what is read in them.
 #[derive(Clone, Copy)]
-enum Due {
+enum WhichLine {
     Header,
     Sizes,
     MustOpen,
@@ -86,7 +89,7 @@ enum Due {
     End,
 }
 
-fn form_of(read: Result<(Form, Shown), LineFault>) -> Result<Form, LineFault> {
+fn form_of(read: Result<(Due, Shown), LineFault>) -> Result<Due, LineFault> {
     match read {
         Ok((due, _)) => Ok(due),
         Err(fault) => Err(fault),
@@ -94,38 +97,48 @@ fn form_of(read: Result<(Form, Shown), LineFault>) -> Result<Form, LineFault> {
 }
 
 // What is read in a line of the tree.
-fn read_tree(alloc: Global, inst: &Instance, due: Due, line: &[u8]) -> Result<Form, LineFault> {
+fn read_tree(
+    alloc: Global,
+    inst: &Instance,
+    due: WhichLine,
+    line: &[u8],
+) -> Result<Due, LineFault> {
     match due {
-        Due::Node => form_of(node(alloc, inst, line)),
-        Due::Values => values(alloc, inst, line),
-        Due::Prices => form_of(prices(alloc, inst, line)),
+        WhichLine::Node => form_of(node(alloc, inst, line)),
+        WhichLine::Values => values(alloc, inst, line),
+        WhichLine::Prices => form_of(prices(alloc, inst, line)),
         _ => read_end(Claim::Infeasible, line),
     }
 }
 
 // What is read in a line of the claim and its plan.
-fn read_plan(alloc: Global, inst: &Instance, due: Due, line: &[u8]) -> Result<Form, LineFault> {
+fn read_plan(
+    alloc: Global,
+    inst: &Instance,
+    due: WhichLine,
+    line: &[u8],
+) -> Result<Due, LineFault> {
     let claim = Claim::Optimal(22_000_000);
     match due {
-        Due::Claim => read_claim(alloc, line),
-        Due::Open => read_open(alloc, inst, claim, line),
-        Due::Serve => form_of(read_serve(alloc, inst, claim, Vec::new(alloc), line)),
+        WhichLine::Claim => read_claim(alloc, line),
+        WhichLine::Open => read_open(alloc, inst, claim, line),
+        WhichLine::Serve => form_of(read_serve(alloc, inst, claim, Vec::new(alloc), line)),
         _ => read_tree(alloc, inst, due, line),
     }
 }
 
-fn read(alloc: Global, inst: &Instance, due: Due, line: &[u8]) -> Result<Form, LineFault> {
+fn read(alloc: Global, inst: &Instance, due: WhichLine, line: &[u8]) -> Result<Due, LineFault> {
     match due {
-        Due::Header => read_header(inst, line),
-        Due::Sizes => read_sizes(inst, line),
-        Due::MustOpen => read_must_open(inst, line),
-        Due::MustClosed => read_must_closed(inst, line),
+        WhichLine::Header => read_header(inst, line),
+        WhichLine::Sizes => read_sizes(inst, line),
+        WhichLine::MustOpen => read_must_open(inst, line),
+        WhichLine::MustClosed => read_must_closed(inst, line),
         _ => read_plan(alloc, inst, due, line),
     }
 }
 
 // Whether the line has the fault of this name.
-fn has_fault(read: Result<Form, LineFault>, name: &str) -> bool {
+fn has_fault(read: Result<Due, LineFault>, name: &str) -> bool {
     match read {
         Err(LineFault::Line(kind)) => kind.name() == name,
         _ => false,
@@ -133,7 +146,7 @@ fn has_fault(read: Result<Form, LineFault>, name: &str) -> bool {
 }
 
 // Whether each row is the name of a fault, and behind a bar a line that has it.
-fn have_faults(alloc: Global, inst: &Instance, due: Due, rows: &str) -> bool {
+fn have_faults(alloc: Global, inst: &Instance, due: WhichLine, rows: &str) -> bool {
     for row in rows.lines() {
         let Some((name, line)) = row.split_once('|') else {
             return false;
@@ -151,14 +164,14 @@ fn names_the_fault_of_a_line(rt: HostRuntime) -> Result<(), Fail> {
     let inst = example(alloc)?;
     let rows = [
         (
-            Due::Header,
+            WhichLine::Header,
             "BadLine|dualoc-certificate 2\n\
             BadLine|dualoc-certificate\n\
             BadLine|dualoc-certificate 1 1\n\
             NotCanonical|dualoc-certificate\t1",
         ),
         (
-            Due::Sizes,
+            WhichLine::Sizes,
             "BadLine|sites 2 customers\n\
             BadLine|sites 2 customers 3 4\n\
             NotCanonical|sites 02 customers 3\n\
@@ -167,13 +180,13 @@ fn names_the_fault_of_a_line(rt: HostRuntime) -> Result<(), Fail> {
             WrongSizes|sites 2 customers 4",
         ),
         (
-            Due::MustOpen,
+            WhichLine::MustOpen,
             "WrongStatus|must-open 3\n\
             BadLine|must-closed",
         ),
-        (Due::MustClosed, "NotCanonical|must-closed 7 3"),
+        (WhichLine::MustClosed, "NotCanonical|must-closed 7 3"),
         (
-            Due::Claim,
+            WhichLine::Claim,
             "BadLine|claim infeasible 1.000000\n\
             BadLine|claim optimal none\n\
             NotCanonical|claim optimal 22.5\n\
@@ -181,19 +194,19 @@ fn names_the_fault_of_a_line(rt: HostRuntime) -> Result<(), Fail> {
             OutOfRange|claim bracket 1.000000 8000000000000.000001",
         ),
         (
-            Due::Open,
+            WhichLine::Open,
             "NotCanonical|open 7 3\n\
             NotCanonical|open 3 3\n\
             OutOfRange|open 4294967296\n\
             UnknownId|open 4294967295",
         ),
         (
-            Due::Serve,
+            WhichLine::Serve,
             "BadLine|serve 3 3\n\
             UnknownId|serve 3 3 4",
         ),
         (
-            Due::Node,
+            WhichLine::Node,
             "BadLine|lane 7\n\
             NotCanonical|site 03\n\
             OutOfRange|site 4294967296\n\
@@ -206,14 +219,14 @@ fn names_the_fault_of_a_line(rt: HostRuntime) -> Result<(), Fail> {
             OutOfRange|leaf -1 0",
         ),
         (
-            Due::Values,
+            WhichLine::Values,
             "BadLine|v 12 9\n\
             BadLine|v 12 7 9 0\n\
             NotCanonical|v 12 +7 9\n\
             OutOfRange|v 1000000000000000000000001 7 9",
         ),
         (
-            Due::Prices,
+            WhichLine::Prices,
             "BadLine|u 3\n\
             NotCanonical|u 3 5 3 6\n\
             NotCanonical|u 3 0\n\
@@ -222,7 +235,7 @@ fn names_the_fault_of_a_line(rt: HostRuntime) -> Result<(), Fail> {
             UnknownId|u 4 5",
         ),
         (
-            Due::End,
+            WhichLine::End,
             "BadLine|end x\n\
             NotCanonical|end ",
         ),

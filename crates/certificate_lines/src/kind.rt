@@ -1,5 +1,5 @@
 ghost use Rattle.std.specs.Prelude.{◌≡◌};
-ghost use Rattle.certificate_lines.specs.Kind.{kind_name};
+ghost use Rattle.certificate_lines.specs.Kind.{cert_kind_name};
 
 use thiserror::Error;
 
@@ -36,7 +36,7 @@ pub enum CertKind {
 impl CertKind {
     /// The name of the kind as the checker prints it, which is that of the variant.
     pub fn name(self) -> &'static str
-        ensures { result.now ≡ kind_name self }
+        ensures { result.now ≡ cert_kind_name self }
     {
         match self {
             CertKind::Ended => "Ended",

@@ -4,23 +4,22 @@
 
 mod claim_line;
 mod fault;
-mod form;
 mod head;
 mod kind;
 mod leaf;
 mod limited;
 mod limits;
+mod line;
 mod node;
-mod pass;
 mod plan_lines;
-mod priced;
 mod row;
+mod seen;
 mod statuses;
 
 pub use fault::CertFault;
-pub use form::{Form, LineFault, Shown};
 pub use kind::CertKind;
 pub use limits::MAX_CERTIFICATE_BYTES;
+pub use line::{Due, LeafHead, LineFault, Shown};
 pub use statuses::{is_all_free, is_status, version};
 
 #[cfg(test)]

@@ -1,20 +1,21 @@
 //! The lines of a tree's nodes: a split on a site, a split on a lane, or the first line of a leaf.
 
-ghost use Rattle.std.specs.Prelude.{◌≡◌, ◌∷◌, [], true, codes};
-ghost use Rattle.location_terms.specs.Instance.{Instance as Warehouse, customer_ids};
-ghost use Rattle.number_words.specs.Line.{words_of_line};
+ghost use Rattle.std.specs.Prelude.{◌≡◌, ◌&&◌, true};
+ghost use Rattle.std.specs.List.{list_all};
+ghost use Rattle.location_terms.specs.Instance.{site_ids, customer_ids};
 ghost use Rattle.number_words.specs.Number.{is_number, number_of};
-ghost use Rattle.certificate_lines.specs.Lines.{is_among, is_id, node_in};
-ghost use Rattle.certificate_lines.specs.Form.{Shows};
+ghost use Rattle.certificate_lines.specs.Head.{numbers};
+ghost use Rattle.certificate_lines.specs.Lines.{behind_first, is_among, is_id, site_shape, lane_shape, leaf_shape, site_said, lane_said, leaf_said, read_shape, read_node};
+ghost use Rattle.certificate_lines.specs.Model.{Answers};
 
 use crate::limited::{scale_in, value_in};
-use crate::pass::place_in;
-use crate::row::id_in;
-use crate::{CertKind, Form, LineFault, Shown};
+use crate::row::{Count, behind_first, id_in, row_fault};
+use crate::seen::place_in;
+use crate::{CertKind, Due, LeafHead, LineFault, Shown};
 use branch_tree::{Decision, Path};
 use instance_store::Instance;
 use location_terms::{Claim, CustId, SiteId};
-use number_words::{LineWords, is_number, is_plain_number, is_spaced};
+use number_words::LineWords;
 
 /// Reads a node at a path.
 pub(crate) fn read_node(
@@ -22,37 +23,45 @@ pub(crate) fn read_node(
     claim: Claim,
     path: Path,
     line: &[u8],
-) -> Result<(Form, Shown), LineFault>
-    ensures { Shows result (node_in inst.now claim path line.now (words_of_line line.now)) }
+) -> Result<(Due, Shown), LineFault>
+    ensures { Answers result (read_node inst.now claim path line.now) }
 {
-    let mut words = LineWords::new(line);
-    let first = words.next();
-    let second = words.next();
-    let third = words.next();
-    match (first, second, third, words.next()) {
-        (Some(name), Some(site), None, None) => read_site(inst, claim, path, line, name, site),
-        (Some(name), Some(x), Some(y), None) => read_pair(inst, claim, path, line, name, x, y),
-        _ => Err(LineFault::Line(CertKind::BadLine)),
+    match LineWords::new(line).next() {
+        Some(name) if name == b"site".as_slice() => read_site(inst, claim, path, line),
+        Some(name) if name == b"lane".as_slice() => read_lane(inst, claim, path, line),
+        _ => read_leaf(claim, path, line),
     }
 }
 
-// A split on a site. The child in which the site is closed comes first.
+// A split on a site.
 fn read_site(
+    inst: &Instance,
+    claim: Claim,
+    path: Path,
+    line: &[u8],
+) -> Result<(Due, Shown), LineFault>
+    ensures { Answers result (read_shape site_shape line.now (site_said inst.now claim path)) }
+{
+    match row_fault(line, b"site", Count::Just(1)) {
+        Some(kind) => Err(LineFault::Line(kind)),
+        None => site_said(inst, claim, path, line),
+    }
+}
+
+// What a split on a site says. The child in which the site is closed comes first.
+fn site_said(
     inst: &Instance,
     claim: Claim,
     mut path: Path,
     line: &[u8],
-    name: &[u8],
-    site: &[u8],
-) -> Result<(Form, Shown), LineFault>
-    ensures { Shows result (node_in inst.now claim path line.now (name.now ∷ site.now ∷ [])) }
+) -> Result<(Due, Shown), LineFault>
+    requires { list_all is_number (behind_first line.now) ≡ true }
+    ensures { Answers result (site_said inst.now claim path (numbers (behind_first line.now))) }
 {
-    if name != b"site".as_slice() || !is_number(site) {
+    let mut words = behind_first(line);
+    let (Some(site), None) = (words.next(), words.next()) else {
         return Err(LineFault::Line(CertKind::BadLine));
-    }
-    if !is_spaced(line) || !is_plain_number(site) {
-        return Err(LineFault::Line(CertKind::NotCanonical));
-    }
+    };
     let Some(id) = id_in(site) else {
         return Err(LineFault::Line(CertKind::OutOfRange));
     };
@@ -61,79 +70,84 @@ fn read_site(
     }
     let site = SiteId::new(id);
     path.push(Decision::Closed(site))?;
-    Ok((Form::Node(claim, path), Shown::Site(site)))
+    Ok((Due::Node(claim, path), Shown::Site(site)))
 }
 
-// A split on a lane, or the first line of a leaf.
-fn read_pair(
+// A split on a lane.
+fn read_lane(
     inst: &Instance,
     claim: Claim,
     path: Path,
     line: &[u8],
-    name: &[u8],
-    x: &[u8],
-    y: &[u8],
-) -> Result<(Form, Shown), LineFault>
-    ensures { Shows result (node_in inst.now claim path line.now (name.now ∷ x.now ∷ y.now ∷ [])) }
+) -> Result<(Due, Shown), LineFault>
+    ensures { Answers result (read_shape lane_shape line.now (lane_said inst.now claim path)) }
 {
-    if name == b"leaf".as_slice() {
-        read_leaf(claim, path, line, x, y)
-    } else if name == b"lane".as_slice() {
-        read_lane(inst, claim, path, line, x, y)
-    } else {
-        Err(LineFault::Line(CertKind::BadLine))
+    match row_fault(line, b"lane", Count::Just(2)) {
+        Some(kind) => Err(LineFault::Line(kind)),
+        None => lane_said(inst, claim, path, line),
     }
 }
 
-// A split on a lane. The child in which the lane is not used comes first.
-fn read_lane(
+// What a split on a lane says. The child in which the lane is not used comes first.
+fn lane_said(
     inst: &Instance,
     claim: Claim,
     mut path: Path,
     line: &[u8],
-    site: &[u8],
-    cust: &[u8],
-) -> Result<(Form, Shown), LineFault>
-    ensures { Shows result (node_in inst.now claim path line.now (codes "lane" ∷ site.now ∷ cust.now ∷ [])) }
+) -> Result<(Due, Shown), LineFault>
+    requires { list_all is_number (behind_first line.now) ≡ true }
+    ensures { Answers result (lane_said inst.now claim path (numbers (behind_first line.now))) }
 {
-    if !is_number(site) || !is_number(cust) {
+    let mut words = behind_first(line);
+    let (Some(site), Some(cust), None) = (words.next(), words.next(), words.next()) else {
         return Err(LineFault::Line(CertKind::BadLine));
-    }
-    if !is_spaced(line) || !is_plain_number(site) || !is_plain_number(cust) {
-        return Err(LineFault::Line(CertKind::NotCanonical));
-    }
+    };
     let (Some(site_id), Some(cust_id)) = (id_in(site), id_in(cust)) else {
         return Err(LineFault::Line(CertKind::OutOfRange));
     };
-    if place_in(inst, site).is_none() || !is_customer(inst, cust) {
+    if !are_known(inst, site, cust) {
         return Err(LineFault::Line(CertKind::UnknownId));
     }
     let site = SiteId::new(site_id);
     let cust = CustId::new(cust_id);
     path.push(Decision::No(site, cust))?;
-    Ok((Form::Node(claim, path), Shown::Lane(site, cust)))
+    Ok((Due::Node(claim, path), Shown::Lane(site, cust)))
 }
 
-// The first line of a leaf: its scale, and its price on the number of sites.
-fn read_leaf(
-    claim: Claim,
-    path: Path,
-    line: &[u8],
-    q: &[u8],
-    nu: &[u8],
-) -> Result<(Form, Shown), LineFault>
-    ensures { (I : Warehouse) → Shows result (node_in I claim path line.now (codes "leaf" ∷ q.now ∷ nu.now ∷ [])) }
+// The first line of a leaf.
+fn read_leaf(claim: Claim, path: Path, line: &[u8]) -> Result<(Due, Shown), LineFault>
+    ensures { Answers result (read_shape leaf_shape line.now (leaf_said claim path)) }
 {
-    if !is_number(q) || !is_number(nu) {
+    match row_fault(line, b"leaf", Count::Just(2)) {
+        Some(kind) => Err(LineFault::Line(kind)),
+        None => leaf_said(claim, path, line),
+    }
+}
+
+// What the first line of a leaf says: its scale, and its price on the number of sites.
+fn leaf_said(claim: Claim, path: Path, line: &[u8]) -> Result<(Due, Shown), LineFault>
+    requires { list_all is_number (behind_first line.now) ≡ true }
+    ensures { Answers result (leaf_said claim path (numbers (behind_first line.now))) }
+{
+    let mut words = behind_first(line);
+    let (Some(q), Some(nu), None) = (words.next(), words.next(), words.next()) else {
         return Err(LineFault::Line(CertKind::BadLine));
-    }
-    if !is_spaced(line) || !is_plain_number(q) || !is_plain_number(nu) {
-        return Err(LineFault::Line(CertKind::NotCanonical));
-    }
+    };
     let (Some(q), Some(nu)) = (scale_in(q), value_in(nu)) else {
         return Err(LineFault::Line(CertKind::OutOfRange));
     };
-    Ok((Form::Values(claim, path, q, nu), Shown::Nothing))
+    let head = LeafHead { claim, path, q, nu };
+    Ok((Due::Values(head), Shown::Nothing))
+}
+
+// Whether two numbers are the ids of a site and of a customer of the instance.
+fn are_known(inst: &Instance, site: &[u8], cust: &[u8]) -> bool
+    requires site { is_number site.now ≡ true }
+    requires cust { is_number cust.now ≡ true }
+    requires id { is_id (number_of cust.now) ≡ true }
+    ensures { result ≡ (is_among (site_ids inst.now) (number_of site.now) && is_among (customer_ids inst.now) (number_of cust.now)) }
+{
+    place_in(inst, site).is_some() && is_customer(inst, cust)
 }
 
 // Whether a number is the id of a customer of the instance.

@@ -7,14 +7,14 @@ ghost use Rattle.location_terms.specs.Instance.{customer_ids};
 ghost use Rattle.location_terms.specs.declared.claim.Claim.{Claim};
 ghost use Rattle.number_words.specs.Number.{is_number};
 ghost use Rattle.certificate_lines.specs.Due.{NodeDue, PlanShown};
-ghost use Rattle.certificate_lines.specs.Form.{Says, Shows};
-ghost use Rattle.certificate_lines.specs.Head.{unless_found};
-ghost use Rattle.certificate_lines.specs.Lines.{shows, args, ids, numbers, is_id, plan_from, read_open, read_serve};
+ghost use Rattle.certificate_lines.specs.Model.{AnswersDue, Answers};
+ghost use Rattle.certificate_lines.specs.Head.{numbers, unless_found};
+ghost use Rattle.certificate_lines.specs.Lines.{then_due, behind_first, ids, is_id, plan_from, read_open, read_serve};
 
 use crate::head::sites_fault;
-use crate::pass::{Pass, row_passes};
-use crate::row::{arg_count, is_plain, is_row, site_list};
-use crate::{CertKind, Form, LineFault, Shown};
+use crate::row::{Count, behind_first, row_fault, site_list};
+use crate::seen::{fault_of, sites_seen};
+use crate::{CertKind, Due, LineFault, Shown};
 use dual_value::Path;
 use instance_store::{Instance, NoMemory};
 use location_terms::{Claim, CustId, SiteId};
@@ -27,12 +27,12 @@ pub(crate) fn read_open(
     inst: &Instance,
     claim: Claim,
     line: &[u8],
-) -> Result<Form, LineFault>
-    ensures { Says result (read_open inst.now claim line.now) }
+) -> Result<Due, LineFault>
+    ensures { AnswersDue result (read_open inst.now claim line.now) }
 {
     match sites_fault(inst, line, b"open") {
         Some(kind) => Err(LineFault::Line(kind)),
-        None => Ok(Form::Serve(claim, site_list(alloc, line)?)),
+        None => Ok(Due::Serve(claim, site_list(alloc, line)?)),
     }
 }
 
@@ -44,42 +44,36 @@ pub(crate) fn read_serve(
     claim: Claim,
     sites: Vec<SiteId>,
     line: &[u8],
-) -> Result<(Form, Shown), LineFault>
+) -> Result<(Due, Shown), LineFault>
     requires { IsStrictlyIncreasing sites.items }
-    ensures { Shows result (read_serve inst.now claim sites.items line.now) }
+    ensures { Answers result (read_serve inst.now claim sites.items line.now) }
 {
     match serve_fault(inst, line) {
         Some(kind) => Err(LineFault::Line(kind)),
         None => {
             let serves = serve_list(alloc, inst, line)?;
             let plan = Plan::new(sites, serves).unwrap();
-            let node = Form::Node(claim, Path::root(alloc));
+            let node = Due::Node(claim, Path::root(alloc));
             Ok((node, Shown::Plan(claim, plan)))
         }
     }
 }
 
 // The fault of a line that is to give a site for each customer.
-#[tactic(auto, using(crate::proofs::Rows::numbers_row))]
 fn serve_fault(inst: &Instance, line: &[u8]) -> Option<CertKind>
-    ensures said { (claim : Claim) (sites : List ℕ) → read_serve inst.now claim sites line.now ≡ unless_found result (shows (NodeDue claim []) (PlanShown claim (plan_from inst.now sites (ids (args line.now))))) }
-    ensures numbers { IsNone result → list_all is_number (args line.now) ≡ true }
-    ensures ids { IsNone result → list_all is_id (numbers (args line.now)) ≡ true }
-    ensures count { IsNone result → length (args line.now) ≡ length inst.now.customers }
+    ensures said { (claim : Claim) (sites : List ℕ) → read_serve inst.now claim sites line.now ≡ unless_found result (then_due (NodeDue claim []) (PlanShown claim (plan_from inst.now sites (ids (numbers (behind_first line.now)))))) }
+    ensures numbers { IsNone result → list_all is_number (behind_first line.now) ≡ true }
+    ensures ids { IsNone result → list_all is_id (numbers (behind_first line.now)) ≡ true }
+    ensures count { IsNone result → length (behind_first line.now) ≡ length inst.now.customers }
 {
-    if !(is_row(line, b"serve") && arg_count(line) == inst.custs()) {
-        return Some(CertKind::BadLine);
+    match row_fault(line, b"serve", Count::Just(inst.custs())) {
+        Some(kind) => Some(kind),
+        None => {
+            let mut seen = sites_seen(inst, behind_first(line));
+            seen.canonical = true;
+            fault_of(seen)
+        }
     }
-    if !is_plain(line) {
-        return Some(CertKind::NotCanonical);
-    }
-    if !row_passes(line, Pass::Id) {
-        return Some(CertKind::OutOfRange);
-    }
-    if !row_passes(line, Pass::Known(inst)) {
-        return Some(CertKind::UnknownId);
-    }
-    None
 }
 
 // Each customer with the site that the line gives for it.
@@ -88,10 +82,10 @@ fn serve_list(
     inst: &Instance,
     line: &[u8],
 ) -> Result<Vec<(CustId, SiteId)>, NoMemory>
-    requires numbers { list_all is_number (args line.now) ≡ true }
-    requires ids { list_all is_id (numbers (args line.now)) ≡ true }
-    requires count { length (args line.now) ≡ length inst.now.customers }
-    ensures exact { IfOk result (λ v. v.items ≡ zip (customer_ids inst.now) (ids (args line.now))) }
+    requires numbers { list_all is_number (behind_first line.now) ≡ true }
+    requires ids { list_all is_id (numbers (behind_first line.now)) ≡ true }
+    requires count { length (behind_first line.now) ≡ length inst.now.customers }
+    ensures exact { IfOk result (λ v. v.items ≡ zip (customer_ids inst.now) (ids (numbers (behind_first line.now)))) }
     ensures rising { IfOk result (λ v. IsStrictlyIncreasing (map (λ s. s.0) v.items)) }
 {
     let servers = site_list(alloc, line)?;

@@ -1,12 +1,12 @@
 ghost use Rattle.std.specs.Prelude.{IfOk};
 ghost use Rattle.certificate_lines.specs.Due.{Suits};
-ghost use Rattle.certificate_lines.specs.Form.{due_of};
+ghost use Rattle.certificate_lines.specs.Model.{due_of};
 
 use crate::claim_line::read_claim;
 use crate::fault_tests::{example, node, prices, values};
 use crate::head::{read_end, read_header, read_must_closed, read_must_open, read_sizes};
 use crate::plan_lines::{read_open, read_serve};
-use crate::{CertKind, Form, LineFault, Shown};
+use crate::{CertKind, Due, LineFault, Shown};
 use branch_tree::Decision;
 use instance_store::Instance;
 use location_terms::{Claim, CustId, SiteId};
@@ -15,33 +15,33 @@ use std::alloc::Global;
 use std::test::Fail;
 
 // Whether a plan is due for this claim.
-fn wants_plan(read: Result<Form, LineFault>, claim: Claim) -> bool {
+fn wants_plan(read: Result<Due, LineFault>, claim: Claim) -> bool {
     match read {
-        Ok(Form::Open(found)) => found == claim,
+        Ok(Due::Open(found)) => found == claim,
         _ => false,
     }
 }
 
 // Whether the tree is due for this claim.
-fn wants_tree(read: Result<Form, LineFault>, claim: Claim) -> bool {
+fn wants_tree(read: Result<Due, LineFault>, claim: Claim) -> bool {
     match read {
-        Ok(Form::Node(found, path)) => found == claim && path.steps() == 0,
+        Ok(Due::Node(found, path)) => found == claim && path.steps() == 0,
         _ => false,
     }
 }
 
 // What is due, where nothing but its kind matters.
-fn due_name(due: &Form) -> &'static str {
+fn due_name(due: &Due) -> &'static str {
     match due {
-        Form::Sizes => "sizes",
-        Form::MustClosed => "must-closed",
-        Form::Claim => "claim",
-        Form::Nothing(_) => "nothing",
+        Due::Sizes => "sizes",
+        Due::MustClosed => "must-closed",
+        Due::Claim => "claim",
+        Due::Nothing(_) => "nothing",
         _ => "another line",
     }
 }
 
-fn wants(read: Result<Form, LineFault>, name: &str) -> bool {
+fn wants(read: Result<Due, LineFault>, name: &str) -> bool {
     match read {
         Ok(due) => due_name(&due) == name,
         Err(_) => false,
@@ -79,9 +79,9 @@ fn are_open(alloc: Global) -> bool {
 }
 
 // Whether these are the sites that are open, the sites of the customers being due.
-fn opens(read: Result<Form, LineFault>, ids: &[SiteId]) -> bool {
+fn opens(read: Result<Due, LineFault>, ids: &[SiteId]) -> bool {
     match read {
-        Ok(Form::Serve(_, sites)) => sites.as_slice() == ids,
+        Ok(Due::Serve(_, sites)) => sites.as_slice() == ids,
         _ => false,
     }
 }
@@ -108,15 +108,15 @@ fn shows(shown: &Shown, sites: [u32; 3]) -> bool {
     }
 }
 
-fn is_root(due: &Form) -> bool {
+fn is_root(due: &Due) -> bool {
     match due {
-        Form::Node(_, path) => path.steps() == 0,
+        Due::Node(_, path) => path.steps() == 0,
         _ => false,
     }
 }
 
 // Whether the root is due, and this plan is shown.
-fn serves_from(read: Result<(Form, Shown), LineFault>, sites: [u32; 3]) -> bool {
+fn serves_from(read: Result<(Due, Shown), LineFault>, sites: [u32; 3]) -> bool {
     match read {
         Ok((due, shown)) => is_root(&due) && shows(&shown, sites),
         Err(_) => false,
@@ -135,9 +135,9 @@ fn is_plan(alloc: Global, inst: &Instance) -> bool {
 }
 
 // Whether a node is due behind this one step.
-fn is_node(due: &Form, step: Decision) -> bool {
+fn is_node(due: &Due, step: Decision) -> bool {
     match due {
-        Form::Node(_, path) => path.as_slice() == [step].as_slice(),
+        Due::Node(_, path) => path.as_slice() == [step].as_slice(),
         _ => false,
     }
 }
@@ -149,7 +149,7 @@ fn is_site(shown: &Shown, site: SiteId) -> bool {
     }
 }
 
-fn splits_site(read: Result<(Form, Shown), LineFault>, site: SiteId) -> bool {
+fn splits_site(read: Result<(Due, Shown), LineFault>, site: SiteId) -> bool {
     match read {
         Ok((due, shown)) => is_site(&shown, site) && is_node(&due, Decision::Closed(site)),
         Err(_) => false,
@@ -163,7 +163,7 @@ fn is_lane(shown: &Shown, site: SiteId, cust: CustId) -> bool {
     }
 }
 
-fn splits_lane(read: Result<(Form, Shown), LineFault>, site: SiteId, cust: CustId) -> bool {
+fn splits_lane(read: Result<(Due, Shown), LineFault>, site: SiteId, cust: CustId) -> bool {
     match read {
         Ok((due, shown)) => is_lane(&shown, site, cust) && is_node(&due, Decision::No(site, cust)),
         Err(_) => false,
@@ -176,14 +176,14 @@ fn are_splits(alloc: Global, inst: &Instance) -> bool {
         && splits_lane(node(alloc, inst, b"lane 7 4"), site, cust)
 }
 
-fn wants_values(due: &Form, scale: u32, price: i128) -> bool {
+fn wants_values(due: &Due, scale: u32, price: i128) -> bool {
     match due {
-        Form::Values(_, _, q, nu) => *q == scale && *nu == price,
+        Due::Values(head) => head.q == scale && head.nu == price,
         _ => false,
     }
 }
 
-fn begins_leaf(read: Result<(Form, Shown), LineFault>, scale: u32, price: i128) -> bool {
+fn begins_leaf(read: Result<(Due, Shown), LineFault>, scale: u32, price: i128) -> bool {
     match read {
         Ok((due, _)) => wants_values(&due, scale, price),
         Err(_) => false,
@@ -200,16 +200,16 @@ fn is_leaf_line(alloc: Global, inst: &Instance) -> bool {
     )
 }
 
-fn has_values(read: Result<Form, LineFault>, wanted: [i128; 3]) -> bool {
+fn has_values(read: Result<Due, LineFault>, wanted: [i128; 3]) -> bool {
     match read {
         Ok(due) => wants_prices(&due, wanted),
         Err(_) => false,
     }
 }
 
-fn wants_prices(due: &Form, values: [i128; 3]) -> bool {
+fn wants_prices(due: &Due, values: [i128; 3]) -> bool {
     match due {
-        Form::Prices(_, _, q, nu, v) => *q == 1 && *nu == -5 && v.as_slice() == values.as_slice(),
+        Due::Prices(head, v) => head.q == 1 && head.nu == -5 && v.as_slice() == values.as_slice(),
         _ => false,
     }
 }
@@ -225,7 +225,7 @@ fn is_leaf(shown: &Shown, wanted: [u64; 2]) -> bool {
 }
 
 // Whether the leaf has these prices, and the box where site 3 is open is due.
-fn has_prices(read: Result<(Form, Shown), LineFault>, wanted: [u64; 2]) -> bool {
+fn has_prices(read: Result<(Due, Shown), LineFault>, wanted: [u64; 2]) -> bool {
     match read {
         Ok((due, shown)) => {
             is_leaf(&shown, wanted) && is_node(&due, Decision::Opened(SiteId::new(3)))
@@ -242,10 +242,10 @@ fn are_duals(alloc: Global, inst: &Instance) -> bool {
 }
 
 // What is due behind these lines.
-fn read_lines(alloc: Global, inst: &Instance, lines: &[&[u8]]) -> Result<Form, LineFault>
+fn read_lines(alloc: Global, inst: &Instance, lines: &[&[u8]]) -> Result<Due, LineFault>
     ensures { IfOk result (λ due. Suits inst.now (due_of due)) }
 {
-    let mut due = Form::Header;
+    let mut due = Due::Header;
     for line in lines {
         let (next, _) = due.read(alloc, inst, line)?;
         due = next;
@@ -253,14 +253,14 @@ fn read_lines(alloc: Global, inst: &Instance, lines: &[&[u8]]) -> Result<Form, L
     Ok(due)
 }
 
-fn is_whole(due: &Form) -> bool {
+fn is_whole(due: &Due) -> bool {
     match due {
-        Form::Nothing(claim) => *claim == Claim::Optimal(13_000_000),
+        Due::Nothing(claim) => *claim == Claim::Optimal(13_000_000),
         _ => false,
     }
 }
 
-fn is_trailing(read: Result<(Form, Shown), LineFault>) -> bool {
+fn is_trailing(read: Result<(Due, Shown), LineFault>) -> bool {
     match read {
         Err(LineFault::Line(kind)) => kind == CertKind::Trailing,
         _ => false,

@@ -1,133 +1,125 @@
-//! Rows of numbers: what stands behind the first word of a line. Each function is one pass over the
-//! line, which may have any number of words, and numbers of any length.
+//! Rows: a word, and then numbers to the end of the line. A line may have any number of words, and
+//! numbers of any length.
 
-ghost use Rattle.std.specs.Prelude.{◌≡◌, true, Some, None, IfOk, length, unsigned_abs, if◌then◌else◌};
-ghost use Rattle.std.specs.Iterator.{YieldsFirstBy, item_count};
+ghost use Rattle.std.specs.Prelude.{◌≡◌, ℕ, ℤ, ◌+◌, ◌&&◌, true, List, Some, None, IsNone, IfOk, length, unsigned_abs, if◌then◌else◌};
 ghost use Rattle.std.specs.List.{list_all};
 ghost use Rattle.number_words.specs.Line.{words_of_line};
-ghost use Rattle.number_words.specs.Number.{is_number, is_plain_number, number_of, is_rising};
-ghost use Rattle.certificate_lines.specs.Lines.{args, numbers, ids, every_second, is_row, is_plain, is_id};
+ghost use Rattle.number_words.specs.Number.{is_number, is_plain_number, number_of};
+ghost use Rattle.certificate_lines.specs.Head.{allows, still_allows, numbers, numbers_at, plain_in, unless_found};
+ghost use Rattle.certificate_lines.specs.Lines.{Said, behind_first, ids, is_id, read_shape};
+ghost use Rattle.certificate_lines.specs.Shape.{Shape, Numbers, row};
 
+use crate::CertKind;
 use instance_store::NoMemory;
 use location_terms::SiteId;
-use number_words::{LineWords, is_number, is_plain_number, is_spaced, number, rises};
+use number_words::{LineWords, is_number, is_plain_number, is_spaced, number};
 use std::alloc::Global;
-use std::marker::Model;
 
-/// An iterator over the words of a row, seen as the list of those that are left: each, or every second
-/// from the first on where they stand in pairs.
-#[derive(Debug, Drop)]
-pub(crate) struct RowWords<'a> {
-    words: LineWords<'a>,
-    in_pairs: bool,
+/// How many numbers a row may have.
+#[derive(Clone, Copy)]
+pub(crate) enum Count {
+    /// Any number of them.
+    Any,
+    /// As many as this.
+    Just(usize),
+    /// An even number.
+    Even,
+    /// An odd number.
+    Odd,
 }
 
-impl<'a> Model for RowWords<'a> {
-    ghost use Rattle.std.specs.Prelude.{List, ℕ, if◌then◌else◌};
-    ghost use Rattle.certificate_lines.specs.Lines.{every_second};
-
-    ghost Value = { List (List ℕ) };
-
-    ghost view = { λ s. if s.in_pairs then every_second s.words else s.words };
+/// The fault of a line that is to be this word and then numbers, where it is not so or not in the one
+/// spelling.
+pub(crate) fn row_fault(line: &[u8], word: &[u8], count: Count) -> Option<CertKind>
+    ensures said { (say : List ℤ → Said) → read_shape (row word.now (allows count)) line.now say ≡ unless_found result (say (numbers (behind_first line.now))) }
+    ensures numbers { IsNone result → list_all is_number (behind_first line.now) ≡ true }
+    ensures plain { IsNone result → list_all is_plain_number (behind_first line.now) ≡ true }
+    ensures enough { IsNone result → allows count (length (behind_first line.now)) ≡ true }
+{
+    shape_fault(line, plain_row(LineWords::new(line), word, count))
 }
 
-impl<'a> Iterator for RowWords<'a> {
-    type Item = &'a [u8];
-
-    ghost next_gives = { YieldsFirstBy (λ word. word.now) (λ words. words) };
-
-    ghost remaining = { item_count (λ words. words) };
-
-    fn next(&mut self) -> Option<&'a [u8]> {
-        let word = self.words.next();
-        if self.in_pairs {
-            let _ = self.words.next();
-        }
-        word
+/// The fault of a line, where `plain` says whether the numbers of its shape are in their one spelling,
+/// and is `None` where the line is of no such shape.
+pub(crate) fn shape_fault(line: &[u8], plain: Option<bool>) -> Option<CertKind>
+    ensures said { (shape : Shape) (say : List ℤ → Said) → plain ≡ plain_in shape (words_of_line line.now) → read_shape shape line.now say ≡ unless_found result (say (numbers_at shape (words_of_line line.now))) }
+    ensures fits { IsNone result → plain ≡ Some true }
+{
+    match plain {
+        None => Some(CertKind::BadLine),
+        Some(plain) if plain && is_spaced(line) => None,
+        Some(_) => Some(CertKind::NotCanonical),
     }
 }
 
-/// The words of a row of numbers.
-pub(crate) fn row_words(line: &[u8]) -> RowWords<'_>
-    ensures { result ≡ args line.now }
+/// Whether the numbers of words that are this word and then numbers are in their one spelling.
+pub(crate) fn plain_row(mut words: LineWords<'_>, word: &[u8], count: Count) -> Option<bool>
+    ensures { result ≡ plain_in (row word.now (allows count)) words.entry }
 {
-    RowWords {
-        words: args(line),
-        in_pairs: false,
-    }
-}
-
-/// Every second of some words, from the first on.
-pub(crate) fn every_second(words: LineWords<'_>) -> RowWords<'_>
-    ensures { result ≡ every_second words.entry }
-{
-    RowWords {
-        words,
-        in_pairs: true,
-    }
-}
-
-/// Whether a line is this word and then numbers.
-pub(crate) fn is_row(line: &[u8], word: &[u8]) -> bool
-    ensures { result ≡ is_row word.now (words_of_line line.now) }
-{
-    let mut words = LineWords::new(line);
     match words.next() {
-        Some(first) => first == word && are_numbers(words),
-        None => false,
+        Some(first) if first == word => plain_numbers(words, count),
+        _ => None,
     }
 }
 
-/// How many words stand behind the first.
-pub(crate) fn arg_count(line: &[u8]) -> usize
-    ensures { result ≡ length (args line.now) }
+// Whether each of some numbers is in its one spelling.
+fn plain_numbers(mut words: LineWords<'_>, count: Count) -> Option<bool>
+    ensures { result ≡ plain_in (Numbers (allows count)) words.entry }
 {
-    args(line).count()
-}
-
-/// Whether numbers are spelled in the one way, and parted by single spaces.
-pub(crate) fn is_plain(line: &[u8]) -> bool
-    requires numbers { list_all is_number (args line.now) ≡ true }
-    ensures { result ≡ is_plain line.now (args line.now) }
-{
-    is_spaced(line) && are_plain(args(line))
-}
-
-/// Whether each number is greater than the one before it.
-pub(crate) fn are_rising(line: &[u8]) -> bool
-    requires numbers { list_all is_number (args line.now) ≡ true }
-    requires plain { is_plain line.now (args line.now) ≡ true }
-    ensures { result ≡ is_rising (numbers (args line.now)) }
-{
-    rise(row_words(line))
-}
-
-/// Whether numbers rise.
-pub(crate) fn rise(mut words: RowWords<'_>) -> bool
-    requires numbers { list_all is_number words ≡ true }
-    requires plain { list_all is_plain_number words ≡ true }
-    ensures { result ≡ is_rising (numbers words.entry) }
-{
-    let Some(mut last) = words.next() else {
-        return true;
-    };
+    let mut plain = true;
+    let mut left = count;
     while let Some(word) = words.next() {
-        if !rises(last, word) {
-            return false;
+        if !is_number(word) {
+            return None;
         }
-        last = word;
+        let Some(behind) = behind_one(left) else {
+            return None;
+        };
+        left = behind;
+        plain = is_also_plain(plain, word);
     }
-    true
+    if is_enough(left) { Some(plain) } else { None }
+}
+
+// Whether a number is in its one spelling, as those before it.
+fn is_also_plain(plain: bool, word: &[u8]) -> bool
+    ensures { result ≡ (plain && is_plain_number word.now) }
+{
+    plain && is_plain_number(word)
+}
+
+// How many numbers there may be behind one more.
+fn behind_one(count: Count) -> Option<Count>
+    ensures { (n : ℕ) → allows count (n + 1) ≡ still_allows result n }
+{
+    match count {
+        Count::Any => Some(Count::Any),
+        Count::Just(0) => None,
+        Count::Just(more) => Some(Count::Just(more - 1)),
+        Count::Even => Some(Count::Odd),
+        Count::Odd => Some(Count::Even),
+    }
+}
+
+// Whether there may be no more numbers.
+fn is_enough(count: Count) -> bool
+    ensures { result ≡ allows count 0 }
+{
+    match count {
+        Count::Any | Count::Even => true,
+        Count::Just(more) => more == 0,
+        Count::Odd => false,
+    }
 }
 
 /// The ids as those of sites. It fails only where memory runs out.
 pub(crate) fn site_list(alloc: Global, line: &[u8]) -> Result<Vec<SiteId>, NoMemory>
-    requires numbers { list_all is_number (args line.now) ≡ true }
-    requires ids { list_all is_id (numbers (args line.now)) ≡ true }
-    ensures { IfOk result (λ v. v.items ≡ ids (args line.now)) }
+    requires numbers { list_all is_number (behind_first line.now) ≡ true }
+    requires ids { list_all is_id (numbers (behind_first line.now)) ≡ true }
+    ensures { IfOk result (λ v. v.items ≡ ids (numbers (behind_first line.now))) }
 {
     let mut list = Vec::new(alloc);
-    let mut words = args(line);
+    let mut words = behind_first(line);
     while let Some(word) = words.next() {
         if let Some(id) = id_in(word) {
             list.push(SiteId::new(id))?;
@@ -145,24 +137,10 @@ pub(crate) fn id_in(word: &[u8]) -> Option<u32>
 }
 
 /// The words behind the first.
-pub(crate) fn args(line: &[u8]) -> LineWords<'_>
-    ensures { result ≡ args line.now }
+pub(crate) fn behind_first(line: &[u8]) -> LineWords<'_>
+    ensures { result ≡ behind_first line.now }
 {
     let mut words = LineWords::new(line);
     let _ = words.next();
     words
-}
-
-// Whether each word is a number.
-fn are_numbers(mut words: LineWords<'_>) -> bool
-    ensures { result ≡ list_all is_number words.entry }
-{
-    words.all(|word| is_number(word))
-}
-
-// Whether each word is a number in its one spelling.
-fn are_plain(mut words: LineWords<'_>) -> bool
-    ensures { result ≡ list_all is_plain_number words.entry }
-{
-    words.all(|word| is_plain_number(word))
 }

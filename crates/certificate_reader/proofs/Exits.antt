@@ -1,5 +1,5 @@
 -- What a file comes to where its reader stops.
-use Rattle.std.proofs.Common.{◌≡◌, ◌⊎◌, ℕ, ◌+◌, ◌<◌, ◌≤◌, Bool, true, false, List, [], ◌∷◌, ◌++◌, length, take, drop, refl, sym, ap, ◌∙◌, subst, inl, inr, arith, append-nil, length-append, Option, None, Some, Result, Ok, Err}
+use Rattle.std.proofs.Common.{◌≡◌, ℕ, ◌+◌, ◌<◌, ◌≤◌, true, false, List, [], ◌∷◌, ◌++◌, length, take, drop, refl, sym, ap, ◌∙◌, subst, inl, inr, arith, append-nil, length-append, Option, None, Some, Result, Ok, Err}
 use Rattle.std.specs.Prelude.{All, IfOk, IsErrOf, replicate, nat_lt, ⊤}
 use Rattle.std.specs.List.{slice_split}
 use Rattle.std.proofs.lemmas.Bool.{le-ltb, lt-ltb}
@@ -17,7 +17,7 @@ use Rattle.certificate_lines.specs.declared.kind.CertKind.{CertKind}
 use Rattle.certificate_lines.specs.declared.kind.CertKind.TheVariants.{Ended, Trailing}
 use Rattle.certificate_lines.specs.Due.{Due, HeaderDue, NothingDue, Shown}
 use Rattle.certificate_lines.specs.Lines.{read_line}
-use Rattle.certificate_lines.specs.Form.{due_of, shown_of}
+use Rattle.certificate_lines.specs.Model.{due_of, shown_of}
 use Rattle.certificate_lines.specs.Text.{text_of_lines}
 use Rattle.certificate_reader.specs.declared.reader.CertReader.{CertReader}
 use Rattle.certificate_reader.specs.declared.reader.Seen.{Seen}

@@ -1,5 +1,5 @@
 -- A text without a fault is that of one certificate, and shows what the certificate shows; and the text of a certificate has no fault.
-use Rattle.std.proofs.Common.{◌≡◌, ℕ, ◌+◌, ◌<◌, ◌≤◌, Bool, true, false, List, [], ◌∷◌, ◌++◌, length, take, refl, sym, ap, ◌∙◌, arith, inl, inr, append-nil, length-append, Some, Ok, Err}
+use Rattle.std.proofs.Common.{◌≡◌, ℕ, ◌+◌, ◌<◌, ◌≤◌, true, false, List, [], ◌∷◌, ◌++◌, length, take, refl, sym, ap, ◌∙◌, arith, inl, inr, append-nil, length-append, Some, Ok, Err}
 use Rattle.std.specs.Prelude.{flat_map, nat_lt}
 use Rattle.std.specs.List.{slice_split}
 use Rattle.std.proofs.lemmas.Bool.{cases_Bool, ltb-false, le-ltb}
@@ -12,20 +12,19 @@ use Rattle.location_terms.specs.Certificate.{Certificate}
 use Rattle.certificate_lines.specs.Due.{Due, HeaderDue, NothingDue, Shown}
 use Rattle.certificate_lines.specs.Lines.{Said, read_line}
 use Rattle.certificate_lines.specs.Text.{certificate_lines, certificate_text, text_of_lines}
-use Rattle.certificate_lines.specs.Follow.{told, follow, HasText, told_by}
-use Rattle.certificate_lines.proofs.Printed.{text_of_pieces, pieces_of_text, certificate_are_lines}
+use Rattle.certificate_lines.specs.Follow.{shown_list, follow, HasText, shown_by}
+use Rattle.certificate_lines.proofs.Printed.{text_of_pieces, pieces_of_text, followed_are_lines}
+use Rattle.certificate_lines.proofs.Following.{first_read, none_left, none_shown, follow-line}
 use Rattle.certificate_lines.proofs.ReadBack.{read_back}
-use Rattle.certificate_lines.proofs.ReadBackFollow.{after, follow-read}
 use Rattle.certificate_lines.proofs.Spelled.{spelled}
-use Rattle.certificate_lines.proofs.SpelledSteps.{first_read, none_left, none_shown}
-use Rattle.certificate_reader.specs.Transcript.{Transcript, ends, behind, at_rest, line_first, transcript_from, transcript_of, transcript_within}
-use Rattle.certificate_reader.proofs.Transcripts.{takes, behind-behind}
+use Rattle.certificate_reader.specs.Transcript.{ends, behind, at_rest, line_first, transcript_from, transcript_of, transcript_within}
+use Rattle.certificate_reader.proofs.Transcripts.{takes}
 
 -- pieces that are lines, which are read to the end, and nothing behind the last line feed
 pub record IsFollowed (I : Instance) (due : Due) (pieces : List (List ℕ)) (claim : Claim) (shown : List Shown) : Type 0 where
   pub lines : List (List ℕ)
   pub parts : pieces ≡ lines ++ [] ∷ []
-  pub read : follow I due lines ≡ Some (NothingDue claim, flat_map told shown)
+  pub read : follow I due lines ≡ Some (NothingDue claim, flat_map shown_list shown)
 
 rest_whole : (I : Instance) (due : Due) (n : ℕ) (rest : List ℕ) (claim : Claim) → at_rest false due n rest ≡ Ok claim → IsFollowed I due (rest ∷ []) claim []
 rest_whole I (NothingDue other) n [] claim e =
@@ -49,21 +48,21 @@ followed I due n (line ∷ piece ∷ pieces) claim some e = by_said (read_line I
         record {
           lines = line ∷ f.lines;
           parts = ap (λ ps. line ∷ ps) f.parts;
-          read = follow-read {I = I} {due = due} {next = next} {line = line} {shown = shown} (record { said = is }) f.lines ∙ ap (after (told shown)) f.read;
+          read = follow-line I due next (NothingDue claim) line f.lines shown _ is f.read;
         }
 
 -- bytes that come to a claim are the text of a certificate with that claim
 pub whole_text : (I : Instance) (bytes : List ℕ) (claim : Claim) → IsValid I → (transcript_of false I bytes).end ≡ Ok claim
-    → (cert : Certificate) × (bytes ≡ certificate_text I cert) × HasText I cert × (cert.claim ≡ claim) × (flat_map told (transcript_of false I bytes).shown ≡ told_by cert)
+    → (cert : Certificate) × (bytes ≡ certificate_text I cert) × HasText I cert × (cert.claim ≡ claim) × (flat_map shown_list (transcript_of false I bytes).shown ≡ shown_by cert)
 whole_text I bytes claim valid e =
     let f = followed I HeaderDue 1 (slice_split is_line_feed bytes) claim (some_piece bytes) e in
-    let spells = spelled I f.lines claim (flat_map told (transcript_of false I bytes).shown) valid f.read in
+    let spells = spelled I f.lines claim (flat_map shown_list (transcript_of false I bytes).shown) valid f.read in
     (spells.0, text_of_pieces bytes f.lines [] f.parts ∙ append-nil (text_of_lines f.lines) ∙ ap text_of_lines spells.1, spells.4, spells.2, spells.3)
 
 -- lines that are read show these, and then come to what follows
 record Leads (I : Instance) (due : Due) (n : ℕ) (lines : List (List ℕ)) (end : Due) (all : List Shown) : Type 0 where
   shown : List Shown
-  are_told : flat_map told shown ≡ all
+  are_told : flat_map shown_list shown ≡ all
   leads : (pieces : List (List ℕ)) → 0 < length pieces → transcript_from false I due n (lines ++ pieces) ≡ behind shown (transcript_from false I end (n + length lines) pieces)
 
 leads_behind : (I : Instance) (due : Due) (n : ℕ) (lines : List (List ℕ)) (end : Due) (all : List Shown) → follow I due lines ≡ Some (end, all) → Leads I due n lines end all
@@ -76,7 +75,7 @@ leads_behind I due n (line ∷ lines) end all e =
     let counts : n + 1 + length lines ≡ n + length (line ∷ lines) = omega arith in
     record {
       shown = first.shown ∷ later.shown;
-      are_told = ap (λ rest. told first.shown ++ rest) later.are_told ∙ sym first.whole;
+      are_told = ap (λ rest. shown_list first.shown ++ rest) later.are_told ∙ sym first.whole;
       leads = λ pieces some.
           takes false I due n line (lines ++ pieces) (omega (arith, length-append lines pieces))
           ∙ ap (λ said. line_first n said (λ next. transcript_from false I next (n + 1) (lines ++ pieces))) first.reads
@@ -85,11 +84,11 @@ leads_behind I due n (line ∷ lines) end all e =
     }
 
 -- the text of a certificate comes to its claim, and shows what it shows
-pub text_shown : (I : Instance) (cert : Certificate) → IsValid I → HasText I cert → (shown : List Shown) × (transcript_of false I (certificate_text I cert) ≡ behind shown (ends (Ok cert.claim))) × (flat_map told shown ≡ told_by cert)
+pub text_shown : (I : Instance) (cert : Certificate) → IsValid I → HasText I cert → (shown : List Shown) × (transcript_of false I (certificate_text I cert) ≡ behind shown (ends (Ok cert.claim))) × (flat_map shown_list shown ≡ shown_by cert)
 text_shown I cert valid has =
     let lines = certificate_lines I cert in
-    let read = leads_behind I HeaderDue 1 lines (NothingDue cert.claim) (told_by cert) (read_back I cert valid has) in
-    (read.shown, ap (transcript_from false I HeaderDue 1) (pieces_of_text lines (certificate_are_lines I cert)) ∙ read.leads ([] ∷ []) (omega arith), read.are_told)
+    let read = leads_behind I HeaderDue 1 lines (NothingDue cert.claim) (shown_by cert) (read_back I cert valid has) in
+    (read.shown, ap (transcript_from false I HeaderDue 1) (pieces_of_text lines (followed_are_lines I HeaderDue _ lines _ (read_back I cert valid has))) ∙ read.leads ([] ∷ []) (omega arith), read.are_told)
 
 -- a file that goes on past a limit is no whole text within it
 rest_not_whole : (due : Due) (n : ℕ) (rest : List ℕ) (claim : Claim) → at_rest true due n rest ≡ Ok claim → ⊥

@@ -1,26 +1,28 @@
 -- From behind some lines to behind one more, and what a file comes to from there.
-use Rattle.std.proofs.Common.{◌≡◌, ◌⊎◌, ℕ, ◌+◌, ◌<◌, ◌≤◌, Bool, false, List, [], ◌∷◌, ◌++◌, length, take, refl, sym, ap, ◌∙◌, subst, inl, inr, arith, append_assoc, append-nil, length-append, Option, None, Some, Ok}
+use Rattle.std.proofs.Common.{◌≡◌, ℕ, ◌+◌, ◌<◌, ◌≤◌, false, List, [], ◌∷◌, ◌++◌, length, take, refl, sym, ap, ◌∙◌, subst, inl, inr, arith, append_assoc, append-nil, length-append, Option, None, Some, Ok}
 use Rattle.std.specs.Prelude.{All, IsSomeAnd, nat_lt, ⊤}
 use Rattle.std.specs.FinMap.{get}
 use Rattle.std.specs.List.{slice_split}
 use Rattle.std.proofs.lemmas.Bool.{le-ltb}
 use Rattle.std.proofs.lemmas.List.{take_all}
 use Rattle.std.proofs.lemmas.List.Elements.{All-append, All-cons, All-nil}
-use Rattle.shelf_port.specs.Files.{Files, HasFile, MayHold}
+use Rattle.shelf_port.specs.Files.{Files, HasFile}
 use Rattle.shelf_lines.specs.Line.{is_line_feed, IsLine}
 use Rattle.shelf_lines.specs.Rest.{LineState, ForFile, rest_of, start_of, unread}
 use Rattle.shelf_lines.proofs.Split.{lines_and_rest, some_piece}
 use Rattle.shelf_lines.proofs.Told.{has_more, found_there}
 use Rattle.location_terms.specs.Instance.{Instance}
 use Rattle.certificate_lines.specs.declared.limits.TheConstants.{MAX_CERTIFICATE_BYTES}
-use Rattle.certificate_lines.specs.Due.{Due, HeaderDue, Shown, Suits}
+use Rattle.certificate_lines.specs.declared.line.Shown.{Shown as CodeShown}
+use Rattle.certificate_lines.specs.Due.{HeaderDue, Shown, Suits}
 use Rattle.certificate_lines.specs.Lines.{read_line}
-use Rattle.certificate_lines.specs.Form.{due_of}
+use Rattle.certificate_lines.specs.Model.{due_of, shown_of}
 use Rattle.certificate_lines.specs.Text.{text_of_lines}
 use Rattle.certificate_lines.proofs.Printed.{pieces_of_text}
 use Rattle.certificate_reader.specs.declared.reader.CertReader.{CertReader}
 use Rattle.certificate_reader.specs.Transcript.{Transcript, behind, line_first, transcript_from, transcript_within}
-use Rattle.certificate_reader.specs.Behind.{IsReady, IsBehind, MayRead}
+use Rattle.certificate_reader.specs.declared.reader.Seen.TheVariants.{Line}
+use Rattle.certificate_reader.specs.Behind.{IsBehind, MayRead, Steps}
 use Rattle.certificate_reader.proofs.Transcripts.{takes, behind-behind}
 
 -- a new reader stands behind no lines
@@ -121,3 +123,14 @@ module _ (told : Option Files) (name : List ℕ) (limit : ℕ) (I : Instance) (s
             | inl first ↦ absurd (omega (arith, some, ap length first.0))
             | inr there ↦ there
           ]
+
+-- a reader stands behind lines that show what P says of
+pub record HasSeen (told : Option Files) (name : List ℕ) (limit : ℕ) (I : Instance) (P : List Shown → Type 0) (reader : CertReader) : Type 0 where
+  pub seen : List Shown
+  pub behind : IsBehind told name limit I seen reader
+  pub has : P seen
+
+-- and then one line more
+pub seen_more : (told : Option Files) (name : List ℕ) (limit : ℕ) (I : Instance) (P Q : List Shown → Type 0) (old new : CertReader) (so_far : HasSeen told name limit I P old) (number : ℕ) (shown : CodeShown)
+    → Steps told name I old new (Ok (Line number shown)) → Q (so_far.seen ++ shown_of shown ∷ []) → HasSeen told name limit I Q new
+seen_more told name limit I P Q old new so_far number shown steps has = record { seen = so_far.seen ++ shown_of shown ∷ []; behind = steps limit so_far.seen so_far.behind; has = has }

@@ -1,16 +1,14 @@
 -- What the pieces of a text come to, a line at a time.
-use Rattle.std.proofs.Common.{◌≡◌, ℕ, ◌+◌, ◌<◌, Bool, true, false, cond, List, [], ◌∷◌, ◌++◌, length, refl, sym, ap, ◌∙◌, arith, append_assoc, Some, None, Ok, Err}
-use Rattle.std.specs.Prelude.{Result}
+use Rattle.std.proofs.Common.{◌≡◌, ℕ, ◌+◌, ◌<◌, Bool, true, false, cond, List, [], ◌∷◌, ◌++◌, length, refl, sym, ap, ◌∙◌, arith, append_assoc, Some, None, Err}
 use Rattle.std.specs.List.{slice_split, onto_first}
 use Rattle.shelf_lines.specs.Line.{is_line_feed, IsLine}
 use Rattle.shelf_lines.proofs.Split.{lines_and_rest, one_line, some_piece}
 use Rattle.location_terms.specs.declared.claim.Claim.{Claim}
 use Rattle.location_terms.specs.Instance.{Instance}
-use Rattle.certificate_lines.specs.declared.fault.CertFault.{CertFault}
 use Rattle.certificate_lines.specs.declared.fault.CertFault.TheVariants.{Text, TooLong}
 use Rattle.certificate_lines.specs.declared.kind.CertKind.TheVariants.{Ended, Trailing}
 use Rattle.certificate_lines.specs.Due.{Due, NothingDue, Shown}
-use Rattle.certificate_lines.specs.Lines.{Said, read_line}
+use Rattle.certificate_lines.specs.Lines.{read_line}
 use Rattle.certificate_reader.specs.Transcript.{Transcript, ends, behind, at_rest, line_first, transcript_from}
 use Rattle.certificate_reader.specs.Behind.{claim_due}
 

@@ -12,7 +12,7 @@ use Rattle.certificate_lines.specs.declared.fault.CertFault.{CertFault}
 use Rattle.certificate_lines.specs.declared.fault.CertFault.TheVariants.{Text, ReadFailed, NoMemory}
 use Rattle.certificate_lines.specs.declared.limits.TheConstants.{MAX_CERTIFICATE_BYTES}
 use Rattle.certificate_lines.specs.Due.{Due, HeaderDue, NothingDue, Suits, Shown}
-use Rattle.certificate_lines.specs.Form.{due_of, shown_of, IsSound}
+use Rattle.certificate_lines.specs.Model.{due_of, shown_of, IsSound}
 use Rattle.certificate_lines.specs.Lines.{read_line}
 use Rattle.certificate_lines.specs.Text.{text_of_lines}
 use Rattle.certificate_reader.specs.declared.reader.CertReader.{CertReader}

@@ -3,11 +3,11 @@ ghost use Rattle.std.specs.Prelude.{◌≡◌, ◌≤◌, ℕ, List, [], Option,
 ghost use Rattle.location_terms.specs.Instance.{Instance as Meaning};
 ghost use Rattle.shelf_port.specs.Files.{Files, Rose, NeverFalls};
 ghost use Rattle.certificate_lines.specs.Due.{Suits};
-ghost use Rattle.certificate_lines.specs.Form.{due_of};
+ghost use Rattle.certificate_lines.specs.Model.{due_of};
 ghost use Rattle.certificate_reader.specs.Behind.{IsBehind, IsReady, IsSoundLine, IsTaken, Steps, claim_due, unread_fault};
 
 use certificate_lines::{
-    CertFault, CertKind, Form, LineFault as Refusal, MAX_CERTIFICATE_BYTES, Shown,
+    CertFault, CertKind, Due, LineFault as Refusal, MAX_CERTIFICATE_BYTES, Shown,
 };
 use instance_store::Instance;
 use location_terms::Claim;
@@ -32,7 +32,7 @@ pub enum Seen {
 #[derive(Drop)]
 pub struct CertReader {
     lines: LineReader,
-    due: Form,
+    due: Due,
     line: u64,
 }
 
@@ -45,7 +45,7 @@ impl CertReader {
         let lines = LineReader::new(alloc, limit);
         CertReader {
             lines,
-            due: Form::Header,
+            due: Due::Header,
             line: 1,
         }
     }
@@ -95,7 +95,7 @@ impl CertReader {
         ensures { IsTaken inst.now self.old self.new result }
     {
         let line = self.line;
-        match mem::replace(&mut self.due, Form::Header).read(alloc, inst, self.lines.line()) {
+        match mem::replace(&mut self.due, Due::Header).read(alloc, inst, self.lines.line()) {
             Ok((due, shown)) => {
                 self.due = due;
                 self.line += 1;
@@ -111,7 +111,7 @@ impl CertReader {
         ensures { result ≡ claim_due (due_of self.now.due) }
     {
         match self.due {
-            Form::Nothing(claim) => Some(claim),
+            Due::Nothing(claim) => Some(claim),
             _ => None,
         }
     }

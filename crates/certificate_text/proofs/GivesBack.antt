@@ -17,12 +17,11 @@ use Rattle.certificate_text.specs.Cert.{certificate_of}
 use Rattle.certificate_text.specs.Read.{Comes}
 use Rattle.certificate_text.specs.GivesBack.{GivesBack}
 use Rattle.certificate_text.proofs.OneText.{alike, no_fault}
+use Rattle.certificate_text.proofs.Reading.{text_is_read, too_long_is_read}
 
 unread : (cert : Certificate) (fault : CertFault) → IsUnread fault → GivesBack cert (Err fault)
-unread cert (Text kind line) (inl e) = cc
-unread cert (Text kind line) (inr e) = cc
-unread cert TooLong (inl e) = cc
-unread cert TooLong (inr e) = cc
+unread cert (Text kind line) e = absurd (text_is_read kind line e)
+unread cert TooLong e = absurd (too_long_is_read e)
 unread cert ReadFailed e = tt
 unread cert NoMemory e = tt
 

@@ -16,8 +16,8 @@ use Rattle.branch_tree.specs.Preorder.{flat, tree_of-flat}
 use Rattle.branch_tree.specs.Walk.{IsWhole}
 use Rattle.branch_tree.proofs.Whole.{whole-flat}
 use Rattle.certificate_lines.specs.Due.{Shown, NothingShown, PlanShown, SiteShown, LaneShown, LeafShown}
-use Rattle.certificate_lines.specs.Follow.{told, HasText, plan_shown, nodes_told, told_by}
-use Rattle.certificate_lines.specs.Form.{IsSound}
+use Rattle.certificate_lines.specs.Follow.{shown_list, HasText, plan_shown, nodes_shown, shown_by}
+use Rattle.certificate_lines.specs.Model.{IsSound}
 use Rattle.certificate_text.specs.declared.kept.Kept.{Kept}
 use Rattle.certificate_text.specs.Read.{nothing_kept, kept_with, kept_all, FitsOn, certificate_from}
 
@@ -25,42 +25,32 @@ kept_all-append : (kept : Kept) (xs ys : List Shown) → kept_all kept (xs ++ ys
 kept_all-append kept [] ys = refl
 kept_all-append kept (x ∷ xs) ys = kept_all-append (kept_with kept x) xs ys
 
-kept_all-told : (kept : Kept) (shown : Shown) → kept_all kept (told shown) ≡ kept_with kept shown
+kept_all-told : (kept : Kept) (shown : Shown) → kept_all kept (shown_list shown) ≡ kept_with kept shown
 kept_all-told kept NothingShown = refl
-kept_all-told kept (PlanShown claim P) = refl
-kept_all-told kept (SiteShown s) = refl
-kept_all-told kept (LaneShown s c) = refl
-kept_all-told kept (LeafShown claim path d) = refl
+kept_all-told kept shown = refl
 
--- a line brings one node at most, and leaves the ids as they are
-kept_few : (kept : Kept) (shown : Shown) → length (kept_with kept shown).nodes.entries ≤ length kept.nodes.entries + 1
-kept_few kept NothingShown = omega arith
-kept_few kept (PlanShown claim P) = omega arith
-kept_few kept (SiteShown s) = omega (arith, length-append kept.nodes.entries (SiteSplit s ∷ []))
-kept_few kept (LaneShown s c) = omega (arith, length-append kept.nodes.entries (LaneSplit s c ∷ []))
-kept_few kept (LeafShown claim path d) = omega (arith, length-append kept.nodes.entries (End d ∷ []))
+-- lines leave the ids as they are, and each brings one node at most
+pub record Grows (lines : ℕ) (old new : Kept) : Type 0 where
+  pub sites : new.nodes.sites ≡ old.nodes.sites
+  pub customers : new.nodes.customers ≡ old.nodes.customers
+  pub few : length new.nodes.entries ≤ length old.nodes.entries + lines
 
-kept_sites : (kept : Kept) (shown : Shown) → (kept_with kept shown).nodes.sites ≡ kept.nodes.sites
-kept_sites kept NothingShown = refl
-kept_sites kept (PlanShown claim P) = refl
-kept_sites kept (SiteShown s) = refl
-kept_sites kept (LaneShown s c) = refl
-kept_sites kept (LeafShown claim path d) = refl
+grows_by_one : (kept : Kept) (shown : Shown) → Grows 1 kept (kept_with kept shown)
+grows_by_one kept NothingShown = record { sites = refl; customers = refl; few = omega arith }
+grows_by_one kept (PlanShown claim P) = record { sites = refl; customers = refl; few = omega arith }
+grows_by_one kept (SiteShown s) = record { sites = refl; customers = refl; few = omega (arith, length-append kept.nodes.entries (SiteSplit s ∷ [])) }
+grows_by_one kept (LaneShown s c) = record { sites = refl; customers = refl; few = omega (arith, length-append kept.nodes.entries (LaneSplit s c ∷ [])) }
+grows_by_one kept (LeafShown claim path d) = record { sites = refl; customers = refl; few = omega (arith, length-append kept.nodes.entries (End d ∷ [])) }
 
-kept_customers : (kept : Kept) (shown : Shown) → (kept_with kept shown).nodes.customers ≡ kept.nodes.customers
-kept_customers kept NothingShown = refl
-kept_customers kept (PlanShown claim P) = refl
-kept_customers kept (SiteShown s) = refl
-kept_customers kept (LaneShown s c) = refl
-kept_customers kept (LeafShown claim path d) = refl
+grows_by_all : (kept : Kept) (seen : List Shown) → Grows (length seen) kept (kept_all kept seen)
+grows_by_all kept [] = record { sites = refl; customers = refl; few = omega arith }
+grows_by_all kept (x ∷ xs) =
+    let one = grows_by_one kept x in
+    let rest = grows_by_all (kept_with kept x) xs in
+    record { sites = rest.sites ∙ one.sites; customers = rest.customers ∙ one.customers; few = omega (arith, one.few, rest.few) }
 
-all_sites : (kept : Kept) (shown : List Shown) → (kept_all kept shown).nodes.sites ≡ kept.nodes.sites
-all_sites kept [] = refl
-all_sites kept (x ∷ xs) = all_sites (kept_with kept x) xs ∙ kept_sites kept x
-
-all_customers : (kept : Kept) (shown : List Shown) → (kept_all kept shown).nodes.customers ≡ kept.nodes.customers
-all_customers kept [] = refl
-all_customers kept (x ∷ xs) = all_customers (kept_with kept x) xs ∙ kept_customers kept x
+pub grows : (I : Instance) (kept : Kept) (seen : List Shown) → kept ≡ kept_all (nothing_kept I) seen → Grows (length seen) (nothing_kept I) kept
+grows I kept seen is = subst (Grows (length seen) (nothing_kept I)) (sym is) (grows_by_all (nothing_kept I) seen)
 
 -- what is shown is on the ids that the tree stands on, where these are the instance's
 fits_on : (I : Instance) (nodes : Begun) (shown : Shown) → nodes.sites ≡ site_ids I → nodes.customers ≡ customer_ids I → IsSound I shown → FitsOn nodes shown
@@ -71,30 +61,18 @@ fits_on I nodes (LaneShown s c) sites customers sound = rw (sites, customers) so
 fits_on I nodes (LeafShown claim path d) sites customers sound =
     (sound.of_instance.sites ∙ sym (length-site_ids I) ∙ ap length (sym sites), sound.of_instance.customers ∙ sym (length-customer_ids I) ∙ ap length (sym customers), sound.in_limits)
 
--- the ids stay as they are, and a line brings one node at most
 pub shown_fits : (I : Instance) (kept : Kept) (seen : List Shown) (shown : Shown) → kept ≡ kept_all (nothing_kept I) seen → IsSound I shown → FitsOn kept.nodes shown
-shown_fits I kept seen shown is sound =
-    fits_on I kept.nodes shown
-    (ap (λ (k : Kept). k.nodes.sites) is ∙ all_sites (nothing_kept I) seen)
-    (ap (λ (k : Kept). k.nodes.customers) is ∙ all_customers (nothing_kept I) seen)
-    sound
-
-all_few : (kept : Kept) (seen : List Shown) → length (kept_all kept seen).nodes.entries ≤ length kept.nodes.entries + length seen
-all_few kept [] = omega arith
-all_few kept (x ∷ xs) = omega (arith, all_few (kept_with kept x) xs, kept_few kept x)
-
-pub few_kept : (I : Instance) (kept : Kept) (seen : List Shown) → kept ≡ kept_all (nothing_kept I) seen → length kept.nodes.entries ≤ length seen
-few_kept I kept seen is = omega (arith, ap (λ (k : Kept). length k.nodes.entries) is, all_few (nothing_kept I) seen)
+shown_fits I kept seen shown is sound = let grown = grows I kept seen is in fits_on I kept.nodes shown grown.sites grown.customers sound
 
 pub kept_more : (I : Instance) (kept next : Kept) (seen : List Shown) (shown : Shown) → kept ≡ kept_all (nothing_kept I) seen → next ≡ kept_with kept shown → next ≡ kept_all (nothing_kept I) (seen ++ shown ∷ [])
 kept_more I kept next seen shown is keeps = keeps ∙ ap (λ k. kept_with k shown) is ∙ sym (kept_all-append (nothing_kept I) seen (shown ∷ []))
 
 -- what is kept is what the lines tell
-kept_told : (kept : Kept) (seen : List Shown) → kept_all kept (flat_map told seen) ≡ kept_all kept seen
+kept_told : (kept : Kept) (seen : List Shown) → kept_all kept (flat_map shown_list seen) ≡ kept_all kept seen
 kept_told kept [] = refl
 kept_told kept (x ∷ xs) =
-    kept_all-append kept (told x) (flat_map told xs)
-    ∙ ap (λ k. kept_all k (flat_map told xs)) (kept_all-told kept x)
+    kept_all-append kept (shown_list x) (flat_map shown_list xs)
+    ∙ ap (λ k. kept_all k (flat_map shown_list xs)) (kept_all-told kept x)
     ∙ kept_told (kept_with kept x) xs
 
 -- with more nodes
@@ -122,23 +100,23 @@ kept_children kept xs ys rest a b e on_a on_b =
     ∙ ap (λ k. kept_all k rest) (in_order kept e a b)
 
 -- the nodes of a tree are kept as its nodes in preorder
-kept_nodes : (claim : Claim) (path : Path) (t : Node) (kept : Kept) (rest : List Shown) → kept_all kept (nodes_told claim path t ++ rest) ≡ kept_all (with_nodes kept (flat t)) rest
+kept_nodes : (claim : Claim) (path : Path) (t : Node) (kept : Kept) (rest : List Shown) → kept_all kept (nodes_shown claim path t ++ rest) ≡ kept_all (with_nodes kept (flat t)) rest
 kept_nodes claim path (Leaf d) kept rest = refl
 kept_nodes claim path (OnSite s a b) kept rest =
-    kept_children kept (nodes_told claim (path ++ Closed s ∷ []) a) (nodes_told claim (path ++ Opened s ∷ []) b) rest (flat a) (flat b) (SiteSplit s)
+    kept_children kept (nodes_shown claim (path ++ Closed s ∷ []) a) (nodes_shown claim (path ++ Opened s ∷ []) b) rest (flat a) (flat b) (SiteSplit s)
     (kept_nodes claim (path ++ Closed s ∷ []) a) (kept_nodes claim (path ++ Opened s ∷ []) b)
 kept_nodes claim path (OnLane s c a b) kept rest =
-    kept_children kept (nodes_told claim (path ++ No s c ∷ []) a) (nodes_told claim (path ++ Yes s c ∷ []) b) rest (flat a) (flat b) (LaneSplit s c)
+    kept_children kept (nodes_shown claim (path ++ No s c ∷ []) a) (nodes_shown claim (path ++ Yes s c ∷ []) b) rest (flat a) (flat b) (LaneSplit s c)
     (kept_nodes claim (path ++ No s c ∷ []) a) (kept_nodes claim (path ++ Yes s c ∷ []) b)
 
 -- what is kept of a whole certificate on the instance
 abbrev pub whole_kept : Instance → Option Plan → Node → Kept
 whole_kept I plan root = record { plan = plan; nodes = record { sites = site_ids I; customers = customer_ids I; entries = flat root } }
 
-kept_tree : (claim : Claim) (root : Node) (kept : Kept) → kept_all kept (nodes_told claim [] root) ≡ with_nodes kept (flat root)
-kept_tree claim root kept = ap (kept_all kept) (sym (append-nil (nodes_told claim [] root))) ∙ kept_nodes claim [] root kept []
+kept_tree : (claim : Claim) (root : Node) (kept : Kept) → kept_all kept (nodes_shown claim [] root) ≡ with_nodes kept (flat root)
+kept_tree claim root kept = ap (kept_all kept) (sym (append-nil (nodes_shown claim [] root))) ∙ kept_nodes claim [] root kept []
 
-kept_certificate : (I : Instance) (claim : Claim) (plan : Option Plan) (root : Node) → kept_all (nothing_kept I) (plan_shown claim plan ++ nodes_told claim [] root) ≡ whole_kept I plan root
+kept_certificate : (I : Instance) (claim : Claim) (plan : Option Plan) (root : Node) → kept_all (nothing_kept I) (plan_shown claim plan ++ nodes_shown claim [] root) ≡ whole_kept I plan root
 kept_certificate I claim None root = kept_tree claim root (nothing_kept I)
 kept_certificate I claim (Some P) root = kept_tree claim root (kept_with (nothing_kept I) (PlanShown claim P))
 
@@ -150,14 +128,14 @@ from_whole I cert has =
     ∙ ap (λ (customers : List ℕ). let t : Tree = record { sites = cert.tree.sites; customers = customers; root = cert.tree.root } in t) (sym has.stands.customers))
 
 -- a certificate is what is kept of what it shows
-pub certificate_kept : (I : Instance) (cert : Certificate) → HasText I cert → certificate_from cert.claim (kept_all (nothing_kept I) (told_by cert)) ≡ cert
+pub certificate_kept : (I : Instance) (cert : Certificate) → HasText I cert → certificate_from cert.claim (kept_all (nothing_kept I) (shown_by cert)) ≡ cert
 certificate_kept I cert has = ap (certificate_from cert.claim) (kept_certificate I cert.claim cert.plan cert.tree.root) ∙ from_whole I cert has
 
 -- lines that show what a certificate shows are kept as that
-pub kept_of : (I : Instance) (cert : Certificate) (seen : List Shown) (kept : Kept) → HasText I cert → kept ≡ kept_all (nothing_kept I) seen → flat_map told seen ≡ told_by cert → certificate_from cert.claim kept ≡ cert
+pub kept_of : (I : Instance) (cert : Certificate) (seen : List Shown) (kept : Kept) → HasText I cert → kept ≡ kept_all (nothing_kept I) seen → flat_map shown_list seen ≡ shown_by cert → certificate_from cert.claim kept ≡ cert
 kept_of I cert seen kept has is shown = ap (certificate_from cert.claim) (is ∙ sym (kept_told (nothing_kept I) seen) ∙ ap (kept_all (nothing_kept I)) shown) ∙ certificate_kept I cert has
 
-pub kept_whole : (I : Instance) (cert : Certificate) (seen : List Shown) (kept : Kept) → kept ≡ kept_all (nothing_kept I) seen → flat_map told seen ≡ told_by cert → IsWhole (Some []) kept.nodes.entries
+pub kept_whole : (I : Instance) (cert : Certificate) (seen : List Shown) (kept : Kept) → kept ≡ kept_all (nothing_kept I) seen → flat_map shown_list seen ≡ shown_by cert → IsWhole (Some []) kept.nodes.entries
 kept_whole I cert seen kept is shown =
     let all : kept ≡ whole_kept I cert.plan cert.tree.root = is ∙ sym (kept_told (nothing_kept I) seen) ∙ ap (kept_all (nothing_kept I)) shown ∙ kept_certificate I cert.claim cert.plan cert.tree.root in
     subst (λ (k : Kept). IsWhole (Some []) k.nodes.entries) (sym all) (whole-flat cert.tree.root)

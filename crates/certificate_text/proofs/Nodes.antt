@@ -8,7 +8,7 @@ use Rattle.shelf_port.proofs.Results.{OnOk-then}
 use Rattle.location_terms.specs.Tree.{Node, Leaf, OnSite, OnLane}
 use Rattle.branch_tree.specs.declared.entry.Entry.{Entry}
 use Rattle.branch_tree.specs.declared.entry.Entry.TheVariants.{End, SiteSplit, LaneSplit}
-use Rattle.branch_tree.specs.declared.node.Node.{Node as Shown}
+use Rattle.branch_tree.specs.declared.node.NodeKind.{NodeKind as Shown}
 use Rattle.branch_tree.specs.Preorder.{flat, no_duals}
 use Rattle.branch_tree.specs.Made.{nodes_shown, entry_shown, duals_of, duals_at}
 use Rattle.branch_tree.proofs.Flat.{nodes_shown-flat}

@@ -1,5 +1,5 @@
 -- Certificates with one text are the same, and the text of a certificate has no fault of form.
-use Rattle.std.proofs.Common.{◌≡◌, ℕ, ◌≤◌, List, [], ◌++◌, length, sym, ap, ◌∙◌, append-nil, false, Ok, Err}
+use Rattle.std.proofs.Common.{◌≡◌, ℕ, ◌≤◌, length, sym, ap, ◌∙◌, append-nil, false, Ok, Err}
 use Rattle.std.specs.Prelude.{flat_map, Result}
 use Rattle.location_terms.specs.declared.claim.Claim.{Claim}
 use Rattle.location_terms.specs.Instance.{Instance, IsValid}
@@ -8,8 +8,7 @@ use Rattle.certificate_lines.specs.declared.fault.CertFault.{CertFault}
 use Rattle.certificate_lines.specs.declared.fault.CertFault.TheVariants.{Text}
 use Rattle.certificate_lines.specs.declared.kind.CertKind.{CertKind}
 use Rattle.certificate_lines.specs.Text.{certificate_text}
-use Rattle.certificate_lines.specs.Due.{Shown}
-use Rattle.certificate_lines.specs.Follow.{told, HasText, told_by}
+use Rattle.certificate_lines.specs.Follow.{shown_list, HasText, shown_by}
 use Rattle.certificate_reader.specs.Transcript.{Transcript, ends, behind, transcript_of, transcript_within}
 use Rattle.certificate_reader.proofs.Meaning.{text_shown, within_limit}
 use Rattle.certificate_text.specs.Form.{HasFault}
@@ -27,8 +26,8 @@ alike I a b valid has_a has_b same =
     let claims : a.claim ≡ b.claim = one_claim a.claim b.claim (ap (λ (t : Transcript). t.end) reads) in
     let shown : of_a.0 ≡ of_b.0 = sym (append-nil of_a.0) ∙ ap (λ (t : Transcript). t.shown) reads ∙ append-nil of_b.0 in
     sym (certificate_kept I a has_a)
-    ∙ ap (λ claim. certificate_from claim (kept_all (nothing_kept I) (told_by a))) claims
-    ∙ ap (λ all. certificate_from b.claim (kept_all (nothing_kept I) all)) (sym of_a.2 ∙ ap (flat_map told) shown ∙ of_b.2)
+    ∙ ap (λ claim. certificate_from claim (kept_all (nothing_kept I) (shown_by a))) claims
+    ∙ ap (λ all. certificate_from b.claim (kept_all (nothing_kept I) all)) (sym of_a.2 ∙ ap (flat_map shown_list) shown ∙ of_b.2)
     ∙ certificate_kept I b has_b
 
 unlike : (claim : Claim) (fault : CertFault) → Ok claim ≡ Err fault → ⊥

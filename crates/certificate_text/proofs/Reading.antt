@@ -1,37 +1,43 @@
 -- What reading a certificate comes to, from what its reader says.
-use Rattle.std.proofs.Common.{◌≡◌, ◌⊎◌, ℕ, ◌+◌, ◌^◌, ◌<◌, List, [], ◌∷◌, ◌++◌, length, arith, refl, sym, ap, ◌∙◌, subst, inl, inr, append-nil, false, Option, None, Some, Ok, Err}
+use Rattle.std.proofs.Common.{◌≡◌, ◌⊎◌, ℕ, ◌+◌, ◌^◌, ◌<◌, List, [], length, arith, sym, ap, ◌∙◌, subst, inl, inr, append-nil, false, Option, None, Some, Ok, Err}
 use Rattle.std.specs.Prelude.{Result, IfOk, IsErrOf, IsSomeAnd, flat_map}
 use Rattle.shelf_port.specs.Files.{Files, HasFile, MayHold}
 use Rattle.branch_tree.specs.Walk.{IsWhole}
 use Rattle.location_terms.specs.declared.claim.Claim.{Claim}
 use Rattle.location_terms.specs.Instance.{Instance, IsValid}
-use Rattle.location_terms.specs.Certificate.{Certificate}
 use Rattle.certificate_lines.specs.declared.fault.CertFault.{CertFault}
 use Rattle.certificate_lines.specs.declared.fault.CertFault.TheVariants.{Text, TooLong}
 use Rattle.certificate_lines.specs.declared.kind.CertKind.{CertKind}
-use Rattle.certificate_lines.specs.declared.form.Shown.{Shown as Told}
+use Rattle.certificate_lines.specs.declared.line.Shown.{Shown as CodeShown}
 use Rattle.certificate_lines.specs.Due.{Shown}
-use Rattle.certificate_lines.specs.Form.{shown_of, IsSound}
-use Rattle.certificate_lines.specs.Follow.{told, HasText, told_by}
+use Rattle.certificate_lines.specs.Model.{shown_of, IsSound}
+use Rattle.certificate_lines.specs.Follow.{shown_list, HasText, shown_by}
 use Rattle.certificate_lines.specs.Text.{certificate_text}
 use Rattle.certificate_reader.specs.declared.reader.CertReader.{CertReader}
-use Rattle.certificate_reader.specs.declared.reader.Seen.{Seen}
 use Rattle.certificate_reader.specs.declared.reader.Seen.TheVariants.{Line, Whole}
 use Rattle.certificate_reader.specs.Transcript.{Transcript, ends, behind, transcript_of, transcript_within}
-use Rattle.certificate_reader.specs.Behind.{IsBehind, MayRead, FailsWith, IsUnread, Steps}
+use Rattle.certificate_reader.specs.Behind.{MayRead, FailsWith, IsUnread, Steps}
+use Rattle.certificate_reader.proofs.Passing.{HasSeen, seen_more}
 use Rattle.certificate_reader.proofs.Meaning.{whole_text, within_limit, whole_within}
 use Rattle.certificate_text.specs.declared.certificate.Certificate.{Certificate as Held}
 use Rattle.certificate_text.specs.declared.kept.Kept.{Kept}
 use Rattle.certificate_text.specs.Cert.{certificate_of}
 use Rattle.certificate_text.specs.Form.{HasFault, PassesLimit}
 use Rattle.certificate_text.specs.Read.{nothing_kept, kept_with, kept_all, FitsOn, certificate_from, Comes}
-use Rattle.certificate_text.proofs.Keeping.{kept_of, kept_whole, kept_more, shown_fits, few_kept}
+use Rattle.certificate_text.proofs.Keeping.{kept_of, kept_whole, kept_more, shown_fits, grows}
 
 -- what is kept is what lines show behind which the reader stands
-pub record HasKept (told : Option Files) (name : List ℕ) (limit : ℕ) (I : Instance) (reader : CertReader) (kept : Kept) : Type 0 where
-  pub seen : List Shown
-  pub behind : IsBehind told name limit I seen reader
-  pub is : kept ≡ kept_all (nothing_kept I) seen
+abbrev pub HasKept : Option Files → List ℕ → ℕ → Instance → CertReader → Kept → Type 0
+HasKept told name limit I reader kept = HasSeen told name limit I (λ seen. kept ≡ kept_all (nothing_kept I) seen) reader
+
+-- a fault of the text is no failed read and no want of memory
+pub text_is_read : (kind : CertKind) (line : ℕ) → IsUnread (Text kind line) → ⊥
+text_is_read kind line (inl failed) = cc
+text_is_read kind line (inr none) = cc
+
+pub too_long_is_read : IsUnread TooLong → ⊥
+too_long_is_read (inl failed) = cc
+too_long_is_read (inr none) = cc
 
 -- what holds of bytes that the file may hold
 has_file : (told : Option Files) (name bytes : List ℕ) (P : List ℕ → Type 0) → MayHold told name bytes → P bytes → HasFile told name P
@@ -51,7 +57,7 @@ module _ (told_files : Option Files) (name : List ℕ) (limit : ℕ) (I : Instan
       let within = whole_within limit I bytes claim (ap (λ (t : Transcript). t.end) may.2) in
       let read : transcript_of false I bytes ≡ behind seen (ends (Ok claim)) = sym (within_limit limit I bytes within) ∙ may.2 in
       let text = whole_text I bytes claim valid (ap (λ (t : Transcript). t.end) read) in
-      let shown : flat_map told seen ≡ told_by text.0 = ap (flat_map told) (sym (ap (λ (t : Transcript). t.shown) read ∙ append-nil seen)) ∙ text.4 in
+      let shown : flat_map shown_list seen ≡ shown_by text.0 = ap (flat_map shown_list) (sym (ap (λ (t : Transcript). t.shown) read ∙ append-nil seen)) ∙ text.4 in
       let same : text.0 ≡ certificate_from claim kept = sym (kept_of I text.0 seen kept text.2 is shown) ∙ ap (λ c. certificate_from c kept) text.3 in
       record {
         has_text = subst (HasText I) same text.2;
@@ -69,32 +75,24 @@ module _ (told_files : Option Files) (name : List ℕ) (limit : ℕ) (I : Instan
   comes_fault seen fault (inl unread) = inl unread
   comes_fault seen fault (inr may) = inr (has_file told_files name may.0 (λ bytes. (transcript_within limit I bytes).end ≡ Err fault) may.1 may.2.end)
 
-  pub kept_none : (reader : CertReader) (kept : Kept) → IsBehind told_files name limit I [] reader → kept ≡ nothing_kept I → HasKept told_files name limit I reader kept
-  kept_none reader kept start is = record { seen = []; behind = start; is = is }
+  module _ (old new : CertReader) (kept : Kept) (so_far : HasKept told_files name limit I old kept) where
+    pub ends_whole : (claim : Claim) → IsValid I → Steps told_files name I old new (Ok (Whole claim)) → IsFinished told_files name I claim kept
+    ends_whole claim valid steps = finished so_far.seen claim kept valid so_far.has (steps limit so_far.seen so_far.behind)
 
-  module _ (before : Option Files) (old new : CertReader) (kept : Kept) (same : before ≡ told_files) (so_far : HasKept told_files name limit I old kept) where
-    step : (r : Result Seen CertFault) → Steps before name I old new r → Steps told_files name I old new r
-    step r steps = subst (λ files. Steps files name I old new r) same steps
+    pub fault_comes : (fault : CertFault) → Steps told_files name I old new (Err fault) → Comes told_files name limit I (Err fault)
+    fault_comes fault steps = comes_fault so_far.seen fault (steps limit so_far.seen so_far.behind)
 
-    pub ends_whole : (claim : Claim) → IsValid I → Steps before name I old new (Ok (Whole claim)) → IsFinished told_files name I claim kept
-    ends_whole claim valid steps = finished so_far.seen claim kept valid so_far.is (step (Ok (Whole claim)) steps limit so_far.seen so_far.behind)
+    -- a line more is kept
+    pub kept_on : (next : Kept) (number : ℕ) (shown : CodeShown) → Steps told_files name I old new (Ok (Line number shown)) → next ≡ kept_with kept (shown_of shown) → HasKept told_files name limit I new next
+    kept_on next number shown steps keeps =
+        seen_more told_files name limit I (λ seen. kept ≡ kept_all (nothing_kept I) seen) (λ seen. next ≡ kept_all (nothing_kept I) seen) old new so_far number shown steps
+        (kept_more I kept next so_far.seen (shown_of shown) so_far.has keeps)
 
-    pub fault_comes : (fault : CertFault) → Steps before name I old new (Err fault) → Comes told_files name limit I (Err fault)
-    fault_comes fault steps = comes_fault so_far.seen fault (step (Err fault) steps limit so_far.seen so_far.behind)
+    pub kept_fits : (shown : Shown) → IsSound I shown → FitsOn kept.nodes shown
+    kept_fits shown sound = shown_fits I kept so_far.seen shown so_far.has sound
 
-  -- a line more is kept
-  pub kept_on : (before : Option Files) (old new : CertReader) (kept next : Kept) → before ≡ told_files → HasKept told_files name limit I old kept → (number : ℕ) (shown : Told) → Steps before name I old new (Ok (Line number shown)) → next ≡ kept_with kept (shown_of shown) → HasKept told_files name limit I new next
-  kept_on before old new kept next same so_far number shown steps keeps = record {
-    seen = so_far.seen ++ shown_of shown ∷ [];
-    behind = step before old new kept same so_far (Ok (Line number shown)) steps limit so_far.seen so_far.behind;
-    is = kept_more I kept next so_far.seen (shown_of shown) so_far.is keeps;
-  }
-
-  pub kept_fits : (reader : CertReader) (kept : Kept) → HasKept told_files name limit I reader kept → (shown : Shown) → IsSound I shown → FitsOn kept.nodes shown
-  kept_fits reader kept so_far shown sound = shown_fits I kept so_far.seen shown so_far.is sound
-
-  pub kept_few : (reader : CertReader) (kept : Kept) → HasKept told_files name limit I reader kept → length kept.nodes.entries + 1 < 2 ^ 32
-  kept_few reader kept so_far = omega (arith, few_kept I kept so_far.seen so_far.is, so_far.behind.line, so_far.behind.ready.few)
+    pub kept_few : length kept.nodes.entries + 1 < 2 ^ 32
+    kept_few = omega (arith, (grows I kept so_far.seen so_far.has).few, so_far.behind.line, so_far.behind.ready.few)
 
   -- what the answer says
   pub of_text : (r : Result Held CertFault) → Comes told_files name limit I r → IfOk r (λ held. HasFile told_files name (λ bytes. bytes ≡ certificate_text I (certificate_of held)))
@@ -105,26 +103,17 @@ module _ (told_files : Option Files) (name : List ℕ) (limit : ℕ) (I : Instan
   has_text (Ok held) comes = comes.0
   has_text (Err fault) comes = tt
 
-  text_is_read : (kind : CertKind) (line : ℕ) → IsUnread (Text kind line) → ⊥
-  text_is_read kind line (inl failed) = cc
-  text_is_read kind line (inr none) = cc
-
-  too_long_is_read : IsUnread TooLong → ⊥
-  too_long_is_read (inl failed) = cc
-  too_long_is_read (inr none) = cc
+  -- a fault of the text is read where the file is told
+  of_decided : (r : Result Held CertFault) (fault : CertFault) → Comes told_files name limit I r → (IsUnread fault → ⊥) → r ≡ Err fault → HasFile told_files name (λ bytes. (transcript_within limit I bytes).end ≡ Err fault)
+  of_decided r fault comes read is =
+      let says : Comes told_files name limit I (Err fault) = subst (Comes told_files name limit I) is comes in
+      elim says [
+        | inl unread ↦ absurd (read unread)
+        | inr has ↦ has
+      ]
 
   pub of_fault : (r : Result Held CertFault) → Comes told_files name limit I r → (kind : CertKind) (line : ℕ) → r ≡ Err (Text kind line) → HasFile told_files name (λ bytes. HasFault limit I bytes kind line)
-  of_fault r comes kind line is =
-      let says : Comes told_files name limit I (Err (Text kind line)) = subst (Comes told_files name limit I) is comes in
-      elim says [
-        | inl unread ↦ absurd (text_is_read kind line unread)
-        | inr has ↦ has
-      ]
+  of_fault r comes kind line = of_decided r (Text kind line) comes (text_is_read kind line)
 
   pub of_too_long : (r : Result Held CertFault) → Comes told_files name limit I r → IsErrOf r TooLong → HasFile told_files name (PassesLimit limit I)
-  of_too_long r comes is =
-      let says : Comes told_files name limit I (Err TooLong) = subst (Comes told_files name limit I) is comes in
-      elim says [
-        | inl unread ↦ absurd (too_long_is_read unread)
-        | inr has ↦ has
-      ]
+  of_too_long r comes = of_decided r TooLong comes too_long_is_read

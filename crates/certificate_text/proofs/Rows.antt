@@ -28,12 +28,13 @@ row_ends f old word text xs ys is same =
     ∙ append_assoc old word (flat_map (λ x. 32 ∷ f x) xs)
     ∙ ap (λ row. old ++ row) (sym (row_words f word xs)))
 
--- the row is whole once each of its numbers is there
-pub counts_end : (old word text : List ℕ) (ns ms : List ℕ) → text ≡ (old ++ word) ++ counted ms → ms ≡ ns → text ++ 10 ∷ [] ≡ (old ++ counts_line word ns) ++ 10 ∷ []
-counts_end old word text ns ms is same = row_ends (λ n. number_text (pos n)) old word text ns ms is same
+-- the row is whole once each of its numbers is there and its line ends
+module _ {T E : Type 0} {new : List ℕ} (r : Result T E) (old word text : List ℕ) (added : new ≡ cond (is_ok r) (text ++ 10 ∷ []) text) where
+  pub counts_added : (ns ms : List ℕ) → text ≡ (old ++ word) ++ counted ms → ms ≡ ns → OnOk r (new ≡ (old ++ counts_line word ns) ++ 10 ∷ [])
+  counts_added ns ms is same = once_added r text (10 ∷ []) added (row_ends (λ n. number_text (pos n)) old word text ns ms is same)
 
-pub numbers_end : (old word text : List ℕ) (zs ys : List ℤ) → text ≡ (old ++ word) ++ numbered ys → ys ≡ zs → text ++ 10 ∷ [] ≡ (old ++ spaced (word ∷ map number_text zs)) ++ 10 ∷ []
-numbers_end old word text zs ys is same = row_ends number_text old word text zs ys is same
+  pub numbers_added : (zs ys : List ℤ) → text ≡ (old ++ word) ++ numbered ys → ys ≡ zs → OnOk r (new ≡ (old ++ spaced (word ∷ map number_text zs)) ++ 10 ∷ [])
+  numbers_added zs ys is same = once_added r text (10 ∷ []) added (row_ends number_text old word text zs ys is same)
 
 priced-none : (ss : List ℕ) → priced ss [] ≡ []
 priced-none [] = refl

@@ -5,8 +5,8 @@ use Rattle.location_terms.specs.Bound.{Duals}
 use Rattle.location_terms.specs.Certificate.{Certificate}
 use Rattle.branch_tree.specs.declared.entry.Entry.{Entry}
 use Rattle.branch_tree.specs.declared.entry.Entry.TheVariants.{End, SiteSplit, LaneSplit}
-use Rattle.branch_tree.specs.declared.node.Node.{Node as Shown}
-use Rattle.branch_tree.specs.declared.node.Node.TheVariants as shown
+use Rattle.branch_tree.specs.declared.node.NodeKind.{NodeKind as Shown}
+use Rattle.branch_tree.specs.declared.node.NodeKind.TheVariants as shown
 use Rattle.number_words.specs.Line.{spaced}
 use Rattle.number_words.specs.Number.{number_text}
 use Rattle.certificate_lines.specs.Text.{counts_line, header_words, sizes_line, status_lines, claim_line, plan_lines, leaf_lines, text_of_lines}

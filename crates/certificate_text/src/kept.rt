@@ -1,7 +1,7 @@
 // What is kept of the lines of a certificate that are read.
 ghost use Rattle.std.specs.Prelude.{[], ◌≡◌, ◌+◌, ◌^◌, ◌<◌, length, IfOk, OnOk, Some};
 ghost use Rattle.branch_tree.specs.Walk.{IsWhole};
-ghost use Rattle.certificate_lines.specs.Form.{shown_of};
+ghost use Rattle.certificate_lines.specs.Model.{shown_of};
 ghost use Rattle.certificate_text.specs.Cert.{certificate_of};
 ghost use Rattle.certificate_text.specs.Read.{nothing_kept, kept_with, FitsOn, certificate_from};
 

@@ -1,18 +1,16 @@
 //! The lines of a certificate, as they are printed.
 ghost use Rattle.std.specs.Prelude.{◌≡◌, ◌++◌, ◌∷◌, [], OnOk, codes, map, pos};
 ghost use Rattle.std.specs.Option.{option_copied};
-ghost use Rattle.number_words.specs.Cost.{micro_text};
 ghost use Rattle.number_words.specs.Line.{spaced};
 ghost use Rattle.number_words.specs.Number.{number_text};
 ghost use Rattle.certificate_lines.specs.Text.{is_status, ids_where, counts_line, header_words, sizes_line, status_lines, claim_line, plan_lines, leaf_lines, priced, text_of_lines};
 ghost use Rattle.certificate_text.specs.Written.{counted, scale_line, split_lines};
 
-use branch_tree::{Duals, Node};
+use branch_tree::{Duals, NodeKind};
 use certificate_lines::{is_all_free, is_status, version};
-use fixed_cost::print_micro;
 use instance_store::Instance;
 use location_terms::{Claim, SiteId, SiteStatus};
-use number_words::print_number;
+use number_words::{push_count, push_number};
 use plan_meaning::Plan;
 use std::alloc::AllocError;
 
@@ -30,9 +28,9 @@ pub(crate) fn push_sizes(text: &mut Vec<u8>, inst: &Instance) -> Result<(), Allo
     ensures { OnOk result (text.new.items ≡ text.old.items ++ sizes_line inst.now ++ 10 ∷ []) }
 {
     text.extend_from_slice(b"sites")?;
-    push_count(text, inst.sites() as u64)?;
+    add_count(text, inst.sites() as u64)?;
     text.extend_from_slice(b" customers")?;
-    push_count(text, inst.custs() as u64)?;
+    add_count(text, inst.custs() as u64)?;
     text.extend_from_slice(b"\n")
 }
 
@@ -58,7 +56,7 @@ fn push_status(
     text.extend_from_slice(word)?;
     for i in 0..inst.sites() {
         if is_status(inst.status(i), status) {
-            push_count(text, u64::from(inst.site_id(i).number()))?;
+            add_count(text, u64::from(inst.site_id(i).number()))?;
         }
     }
     text.extend_from_slice(b"\n")
@@ -68,26 +66,8 @@ fn push_status(
 pub(crate) fn push_claim(text: &mut Vec<u8>, claim: &Claim) -> Result<(), AllocError>
     ensures { OnOk result (text.new.items ≡ text.old.items ++ claim_line claim.now ++ 10 ∷ []) }
 {
-    match claim {
-        Claim::Optimal(cost) => {
-            text.extend_from_slice(b"claim optimal")?;
-            push_cost(text, *cost)?;
-        }
-        Claim::Infeasible => text.extend_from_slice(b"claim infeasible")?,
-        Claim::Bracket { low, high: None } => {
-            text.extend_from_slice(b"claim bracket")?;
-            push_cost(text, *low)?;
-            text.extend_from_slice(b" none")?;
-        }
-        Claim::Bracket {
-            low,
-            high: Some(high),
-        } => {
-            text.extend_from_slice(b"claim bracket")?;
-            push_cost(text, *low)?;
-            push_cost(text, *high)?;
-        }
-    }
+    text.extend_from_slice(b"claim ")?;
+    fixed_cost::push_claim(text, *claim)?;
     text.extend_from_slice(b"\n")
 }
 
@@ -110,7 +90,7 @@ fn push_open(text: &mut Vec<u8>, plan: &Plan) -> Result<(), AllocError>
 {
     text.extend_from_slice(b"open")?;
     for k in 0..plan.site_count() {
-        push_count(text, u64::from(plan.site(k).number()))?;
+        add_count(text, u64::from(plan.site(k).number()))?;
     }
     text.extend_from_slice(b"\n")
 }
@@ -121,26 +101,26 @@ fn push_serve(text: &mut Vec<u8>, plan: &Plan) -> Result<(), AllocError>
 {
     text.extend_from_slice(b"serve")?;
     for k in 0..plan.serve_count() {
-        push_count(text, u64::from(plan.serve(k).1.number()))?;
+        add_count(text, u64::from(plan.serve(k).1.number()))?;
     }
     text.extend_from_slice(b"\n")
 }
 
 /// A split. A leaf has no line here.
-pub(crate) fn push_split(text: &mut Vec<u8>, node: Node) -> Result<(), AllocError>
+pub(crate) fn push_split(text: &mut Vec<u8>, node: NodeKind) -> Result<(), AllocError>
     ensures { OnOk result (text.new.items ≡ text.old.items ++ text_of_lines (split_lines node)) }
 {
     match node {
-        Node::Leaf => Ok(()),
-        Node::Site(site) => {
+        NodeKind::Leaf => Ok(()),
+        NodeKind::Site(site) => {
             text.extend_from_slice(b"site")?;
-            push_count(text, u64::from(site.number()))?;
+            add_count(text, u64::from(site.number()))?;
             text.extend_from_slice(b"\n")
         }
-        Node::Lane(site, cust) => {
+        NodeKind::Lane(site, cust) => {
             text.extend_from_slice(b"lane")?;
-            push_count(text, u64::from(site.number()))?;
-            push_count(text, u64::from(cust.number()))?;
+            add_count(text, u64::from(site.number()))?;
+            add_count(text, u64::from(cust.number()))?;
             text.extend_from_slice(b"\n")
         }
     }
@@ -164,8 +144,8 @@ fn push_scale(text: &mut Vec<u8>, duals: &Duals) -> Result<(), AllocError>
     ensures { OnOk result (text.new.items ≡ text.old.items ++ scale_line duals.now ++ 10 ∷ []) }
 {
     text.extend_from_slice(b"leaf")?;
-    push_count(text, u64::from(duals.q()))?;
-    push_number(text, duals.nu())?;
+    add_count(text, u64::from(duals.q()))?;
+    add_number(text, duals.nu())?;
     text.extend_from_slice(b"\n")
 }
 
@@ -175,7 +155,7 @@ fn push_values(text: &mut Vec<u8>, values: &[i128]) -> Result<(), AllocError>
 {
     text.extend_from_slice(b"v")?;
     for value in values {
-        push_number(text, *value)?;
+        add_number(text, *value)?;
     }
     text.extend_from_slice(b"\n")
 }
@@ -198,33 +178,22 @@ fn push_price(text: &mut Vec<u8>, site: SiteId, price: u64) -> Result<(), AllocE
     if price == 0 {
         return Ok(());
     }
-    push_count(text, u64::from(site.number()))?;
-    push_count(text, price)
+    add_count(text, u64::from(site.number()))?;
+    add_count(text, price)
 }
 
 // A space, and a number that isn't below 0.
-fn push_count(text: &mut Vec<u8>, n: u64) -> Result<(), AllocError>
+fn add_count(text: &mut Vec<u8>, n: u64) -> Result<(), AllocError>
     ensures { OnOk result (text.new.items ≡ text.old.items ++ 32 ∷ number_text (pos n)) }
 {
-    push_number(text, i128::from(n))
+    text.extend_from_slice(b" ")?;
+    push_count(text, n)
 }
 
 // A space and a number.
-fn push_number(text: &mut Vec<u8>, value: i128) -> Result<(), AllocError>
+fn add_number(text: &mut Vec<u8>, value: i128) -> Result<(), AllocError>
     ensures { OnOk result (text.new.items ≡ text.old.items ++ 32 ∷ number_text value) }
 {
-    let mut buffer = [0; 40];
-    let len = print_number(value, &mut buffer);
     text.extend_from_slice(b" ")?;
-    text.extend_from_slice(&buffer[..len])
-}
-
-// A space, and millionths in units with six decimals.
-fn push_cost(text: &mut Vec<u8>, micro: u64) -> Result<(), AllocError>
-    ensures { OnOk result (text.new.items ≡ text.old.items ++ 32 ∷ micro_text micro) }
-{
-    let mut buffer = [0; 24];
-    let len = print_micro(micro, &mut buffer);
-    text.extend_from_slice(b" ")?;
-    text.extend_from_slice(&buffer[..len])
+    push_number(text, value)
 }

@@ -4,7 +4,8 @@ ghost use Rattle.location_terms.specs.Tree.{StandsOn, nodes_of};
 use super::*;
 use branch_tree::{Duals, Tree};
 use dual_value::fits;
-use instance_store::{CustRow, Instance, LaneRow, NoMemory, SiteRow};
+use example_instances::{customer, site, two_sites};
+use instance_store::{Instance, LaneRow, NoMemory};
 use location_terms::{Claim, CustId, SiteId};
 use plan_meaning::Plan;
 use shelf_port::{MemShelf, PutFault};
@@ -39,35 +40,8 @@ const TREE_TEXT: &str = "dualoc-certificate 1\n\
     u 1 4 2 9\n\
     end\n";
 
-fn site(id: u32, fixed: u64, cap: Option<u64>, lanes: LaneRow) -> SiteRow
-    ensures { result ≡ record { id = id; fixed = fixed; cap = cap; lanes = lanes } }
-{
-    SiteRow {
-        id: SiteId::new(id),
-        fixed,
-        cap,
-        lanes,
-    }
-}
-
-fn cust(id: u32) -> CustRow
-    ensures { result ≡ record { id = id; demand = 0 } }
-{
-    CustRow {
-        id: CustId::new(id),
-        demand: 0,
-    }
-}
-
 pub(super) fn example(alloc: Global) -> Result<Instance, NoMemory> {
-    let near = LaneRow::from_slice(alloc, &[Some(1_000_000), Some(2_000_000), Some(9_000_000)])?;
-    let far = LaneRow::from_slice(alloc, &[Some(8_000_000), Some(7_000_000), Some(1_000_000)])?;
-    let sites = vec![in alloc;
-        site(1, 10_000_000, None, near),
-        site(2, 12_000_000, None, far),
-    ]?;
-    let custs = vec![in alloc; cust(1), cust(2), cust(3)]?;
-    Instance::from_parts(alloc, 0, 2, 3, 4, custs, sites)
+    two_sites(alloc, 0, 2)
 }
 
 // Two sites with capacities, and one customer.
@@ -78,7 +52,7 @@ fn capacitated(alloc: Global) -> Result<Instance, NoMemory> {
         site(1, 10_000_000, Some(5), near),
         site(2, 12_000_000, Some(5), far),
     ]?;
-    Instance::from_parts(alloc, 0, 2, 3, 2, vec![in alloc; cust(1)]?, sites)
+    Instance::from_parts(alloc, 0, 2, 3, 2, vec![in alloc; customer(1, 0)]?, sites)
 }
 
 // A tree of one leaf, whose duals fit.

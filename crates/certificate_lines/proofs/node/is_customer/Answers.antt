@@ -1,7 +1,7 @@
 use Rattle.std.proofs.Common.{ap, ◌∙◌, ◌==◌, is_some, position}
 use Rattle.location_terms.specs.Instance.{customer_ids}
 use Rattle.number_words.specs.Number.{number_of}
-use Rattle.certificate_lines.proofs.Rows.{is_among-place}
+use Rattle.certificate_lines.proofs.Places.{is_among-place}
 use Rattle.certificate_lines.proofs.node.is_customer.Goals as goal
 
 pub returns-in-Some : goal.returns-in-Some

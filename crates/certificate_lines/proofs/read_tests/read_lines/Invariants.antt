@@ -1,5 +1,5 @@
 use Rattle.certificate_lines.specs.Due.{Suits}
-use Rattle.certificate_lines.specs.Form.{due_of}
+use Rattle.certificate_lines.specs.Model.{due_of}
 use Rattle.certificate_lines.proofs.read_tests.read_lines.Given as goal
 
 abbrev pub invariant-loop-line : goal.invariant-loop-line

@@ -1,6 +1,6 @@
-use Rattle.std.proofs.Common.{[], ◌∷◌, arith, refl, ◌<◌, length, ◌∙◌}
+use Rattle.std.proofs.Common.{arith, refl, ◌<◌, length, ◌∙◌}
 use Rattle.std.proofs.lemmas.List.{get_or_default}
-use Rattle.certificate_text.proofs.Rows.{once_added, counts_end, priced-all, price_next}
+use Rattle.certificate_text.proofs.Rows.{counts_added, priced-all, price_next}
 use Rattle.certificate_text.proofs.print.push_prices.Goals as goal
 
 pub loop-k-preserved : goal.loop-k-preserved
@@ -12,5 +12,4 @@ loop-k-preserved c =
 
 pub returns : goal.returns
 returns c =
-    once_added c.extend_from_slice-2.result c.loop-k.text.items (10 ∷ []) c.extend_from_slice-2.ensures.items
-    (counts_end _ _ _ _ _ c.loop-k.invariant (priced-all c.args.sites.now c.args.prices.now c.loop-k.k (omega (arith, c.min-k-end.ensures))))
+    counts_added c.extend_from_slice-2.result _ _ _ c.extend_from_slice-2.ensures.items _ _ c.loop-k.invariant (priced-all c.args.sites.now c.args.prices.now c.loop-k.k (omega (arith, c.min-k-end.ensures)))

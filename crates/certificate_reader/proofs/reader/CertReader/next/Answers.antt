@@ -1,5 +1,4 @@
-use Rattle.std.proofs.Common.{◌+◌, ◌≤◌, sym, ap, ◌∙◌, inr, arith, Ok, length}
-use Rattle.shelf_lines.specs.Rest.{unread}
+use Rattle.std.proofs.Common.{sym, ◌∙◌, inr, arith}
 use Rattle.certificate_reader.proofs.Exits.{ends_too_soon, cut_in_line, reads_whole, cut_behind, bytes_behind, line_steps, line_sound, no_read}
 use Rattle.certificate_reader.proofs.reader.CertReader.next.Goals as goal
 
