@@ -1,5 +1,5 @@
 -- What a run answers: the status of a reply, and its text.
-use Rattle.std.specs.Prelude.{ℕ, List, ◌++◌, Some, codes, decimal}
+use Rattle.std.specs.Prelude.{ℕ, List, [], ◌++◌, Some, codes, decimal}
 use Rattle.location_terms.specs.declared.claim.Claim.{Claim}
 use Rattle.location_terms.specs.declared.claim.Claim.TheVariants as claims
 use Rattle.location_terms.specs.declared.claim.Claim.TheVariants.{Optimal}
@@ -7,9 +7,10 @@ use Rattle.fixed_cost.specs.Faults.{fault_text}
 use Rattle.number_words.specs.Cost.{micro_text}
 use Rattle.number_words.specs.Number.{number_text}
 use Rattle.plan_meaning.specs.PlanFault.{fault_name}
-use Rattle.report.specs.PlanText.{claim_line, high_text, plan_text_of}
+use Rattle.fixed_cost.specs.Claim.{claim_text}
+use Rattle.report.specs.PlanText.{plan_text_of}
 use Rattle.report.specs.DualsText.{duals_text_of}
-use Rattle.certificate_lines.specs.Kind.{kind_name}
+use Rattle.certificate_lines.specs.Kind.{cert_kind_name}
 use Rattle.certificate_check.specs.declared.verdict.Why.{Why}
 use Rattle.certificate_check.specs.declared.verdict.Why.TheVariants.{PlanRefused, CostDiffers, LeafOpen}
 use Rattle.certificate_check.specs.declared.verdict.Verdict.TheVariants.{Yes, No}
@@ -47,12 +48,14 @@ no_text line (PlanRefused fault) = codes "no PlanRefused line " ++ decimal line 
 no_text line (CostDiffers found) = codes "no CostDiffers line " ++ decimal line ++ codes " found " ++ micro_text found ++ codes "\n"
 no_text line (LeafOpen bound q) = codes "no LeafOpen line " ++ decimal line ++ codes " bound " ++ number_text bound ++ codes " scale " ++ decimal q ++ codes "\n"
 
--- the line of what a search came to, with how many nodes its tree has, and the budget in force where that was spent
+-- the budget in force, where it was spent
+abbrev pub spent_text : Claim → ℕ → List ℕ
+spent_text (claims.Bracket low high) budget = codes " budget " ++ decimal budget
+spent_text claim budget = []
+
+-- the line of what a search came to, with how many nodes its tree has
 abbrev pub result_line : Claim → ℕ → ℕ → List ℕ
-result_line (claims.Optimal cost) nodes budget = codes "optimal " ++ micro_text cost ++ codes " nodes " ++ decimal nodes ++ codes "\n"
-result_line claims.Infeasible nodes budget = codes "infeasible nodes " ++ decimal nodes ++ codes "\n"
-result_line (claims.Bracket low high) nodes budget =
-    codes "bracket " ++ micro_text low ++ codes " " ++ high_text high ++ codes " nodes " ++ decimal nodes ++ codes " budget " ++ decimal budget ++ codes "\n"
+result_line claim nodes budget = claim_text claim ++ codes " nodes " ++ decimal nodes ++ spent_text claim budget ++ codes "\n"
 
 abbrev pub text_of : Reply → List ℕ
 text_of NoCommand = codes "usage\n"
@@ -67,6 +70,6 @@ text_of (Searched claim nodes budget) = result_line claim nodes budget
 text_of (Ascent I d) = duals_text_of I d
 text_of CertificateUnread = codes "read fault\n"
 text_of LongCertificate = codes "too large certificate\n"
-text_of (Misspelt kind line) = codes "no " ++ kind_name kind ++ codes " line " ++ decimal line ++ codes "\n"
-text_of (Judged (Yes claim)) = codes "yes " ++ claim_line claim
+text_of (Misspelt kind line) = codes "no " ++ cert_kind_name kind ++ codes " line " ++ decimal line ++ codes "\n"
+text_of (Judged (Yes claim)) = codes "yes " ++ claim_text claim ++ codes "\n"
 text_of (Judged (No line why)) = no_text line why

@@ -4,17 +4,17 @@ use Rattle.dualoc_cli.specs.declared.status.Status.{Status}
 use Rattle.dualoc_cli.specs.declared.status.Status.TheVariants.{Done, Infeasible, Bracket, CheckNo, Usage, BadInput, ReadFault, WriteFault, TooLarge, NoMemory}
 
 -- the number with which the program ends
-abbrev pub number_of : Status → ℕ
-number_of Done = 0
-number_of Infeasible = 1
-number_of Bracket = 2
-number_of CheckNo = 3
-number_of Usage = 4
-number_of BadInput = 5
-number_of ReadFault = 6
-number_of WriteFault = 7
-number_of TooLarge = 8
-number_of NoMemory = 9
+abbrev pub exit_number : Status → ℕ
+exit_number Done = 0
+exit_number Infeasible = 1
+exit_number Bracket = 2
+exit_number CheckNo = 3
+exit_number Usage = 4
+exit_number BadInput = 5
+exit_number ReadFault = 6
+exit_number WriteFault = 7
+exit_number TooLarge = 8
+exit_number NoMemory = 9
 
 -- the status of a run where a write of the text that is due with this one failed: a result that isn't printed whole is none
 abbrev pub when_cut : Status → Status

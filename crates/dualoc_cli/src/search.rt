@@ -158,7 +158,7 @@ fn leave<H: Shelf>(
     ensures reads { NeverFalls (H.read_faults shelf.old) (H.read_faults shelf.new) }
     ensures writes { NeverFalls (H.write_faults shelf.old) (H.write_faults shelf.new) }
 {
-    let plan = plan_text(alloc, inst, &cert.claim, cert.plan.as_ref())?;
+    let plan = plan_text(alloc, inst, cert.claim, cert.plan.as_ref())?;
     match put_whole(shelf, into.plan, &plan) {
         Ok(()) => {}
         Err(PutFault::Failed) => return Ok(Reply::Unwritten),

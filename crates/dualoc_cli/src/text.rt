@@ -1,20 +1,17 @@
 //! The texts of replies.
-ghost use Rattle.std.specs.Prelude.{◌≡◌, ◌++◌, IfOk, OnOk};
-ghost use Rattle.number_words.specs.Number.{number_text};
-ghost use Rattle.number_words.specs.Cost.{micro_text};
-ghost use Rattle.report.specs.PlanText.{high_text};
+ghost use Rattle.std.specs.Prelude.{◌≡◌, IfOk};
 ghost use Rattle.dualoc_cli.specs.Reply.{text_of, result_line, no_text};
 ghost use Rattle.dualoc_cli.specs.Step.{IsPrintable};
 
 use crate::reply::Reply;
 use certificate_check::{CertKind, Verdict, Why};
-use fixed_cost::{FileFault, print_micro};
+use fixed_cost::{FileFault, push_claim, push_micro};
 use instance_store::NoMemory;
 use location_terms::Claim;
-use number_words::print_number;
+use number_words::push_number;
 use plan_meaning::PlanFault;
-use report::{duals_text, plan_text, push_claim};
-use std::alloc::{AllocError, Global};
+use report::{duals_text, plan_text};
+use std::alloc::Global;
 
 /// The text of a reply, as it is printed.
 ///
@@ -33,7 +30,7 @@ pub fn text(alloc: Global, reply: &Reply) -> Result<Vec<u8>, NoMemory>
         Reply::LongCertificate => line(alloc, b"too large certificate\n"),
         Reply::Faulty(fault) => faulty(alloc, *fault),
         Reply::Optimum(inst, plan, cost) => {
-            plan_text(alloc, inst, &Claim::Optimal(*cost), Some(plan))
+            plan_text(alloc, inst, Claim::Optimal(*cost), Some(plan))
         }
         Reply::Searched {
             claim,
@@ -61,56 +58,14 @@ fn faulty(alloc: Global, fault: FileFault) -> Result<Vec<u8>, NoMemory>
 fn searched(alloc: Global, claim: Claim, nodes: u32, budget: u32) -> Result<Vec<u8>, NoMemory>
     ensures { IfOk result (λ text. text.items ≡ result_line claim nodes budget) }
 {
-    match claim {
-        Claim::Optimal(cost) => optimal(alloc, cost, nodes),
-        Claim::Infeasible => Ok(format!(in alloc; "infeasible nodes {nodes}\n")?.into_bytes()),
-        Claim::Bracket { low, high } => bracket(alloc, low, high, nodes, budget),
-    }
-}
-
-fn optimal(alloc: Global, cost: u64, nodes: u32) -> Result<Vec<u8>, NoMemory>
-    ensures { IfOk result (λ text. text.items ≡ result_line (Claim.Optimal cost) nodes 0) }
-{
-    let mut text = Vec::from_slice(alloc, b"optimal ")?;
-    push_cost(&mut text, cost)?;
-    let tail = format!(in alloc; " nodes {nodes}\n")?;
+    let mut text = Vec::new(alloc);
+    push_claim(&mut text, claim)?;
+    let tail = match claim {
+        Claim::Optimal(_) | Claim::Infeasible => format!(in alloc; " nodes {nodes}\n")?,
+        Claim::Bracket { .. } => format!(in alloc; " nodes {nodes} budget {budget}\n")?,
+    };
     text.extend_from_slice(tail.as_bytes())?;
     Ok(text)
-}
-
-fn bracket(
-    alloc: Global,
-    low: u64,
-    high: Option<u64>,
-    nodes: u32,
-    budget: u32,
-) -> Result<Vec<u8>, NoMemory>
-    ensures { IfOk result (λ text. text.items ≡ result_line (Claim.Bracket low high) nodes budget) }
-{
-    let mut text = Vec::from_slice(alloc, b"bracket ")?;
-    push_cost(&mut text, low)?;
-    text.extend_from_slice(b" ")?;
-    push_high(&mut text, high)?;
-    let tail = format!(in alloc; " nodes {nodes} budget {budget}\n")?;
-    text.extend_from_slice(tail.as_bytes())?;
-    Ok(text)
-}
-
-fn push_high(text: &mut Vec<u8>, high: Option<u64>) -> Result<(), AllocError>
-    ensures { OnOk result (text.new.items ≡ text.old.items ++ high_text high) }
-{
-    match high {
-        Some(cost) => push_cost(text, cost),
-        None => text.extend_from_slice(b"none"),
-    }
-}
-
-fn push_cost(text: &mut Vec<u8>, cost: u64) -> Result<(), AllocError>
-    ensures { OnOk result (text.new.items ≡ text.old.items ++ micro_text cost) }
-{
-    let mut buffer = [0; 24];
-    let len = print_micro(cost, &mut buffer);
-    text.extend_from_slice(&buffer[..len])
 }
 
 fn misspelt(alloc: Global, kind: CertKind, line: u64) -> Result<Vec<u8>, NoMemory>
@@ -124,16 +79,17 @@ fn judged(alloc: Global, verdict: Verdict) -> Result<Vec<u8>, NoMemory>
     ensures { IfOk result (λ text. text.items ≡ text_of (Reply.Judged verdict)) }
 {
     match verdict {
-        Verdict::Yes(claim) => yes(alloc, &claim),
+        Verdict::Yes(claim) => yes(alloc, claim),
         Verdict::No { line, why } => no(alloc, line, why),
     }
 }
 
-fn yes(alloc: Global, claim: &Claim) -> Result<Vec<u8>, NoMemory>
-    ensures { IfOk result (λ text. text.items ≡ text_of (Reply.Judged (Verdict.Yes claim.now))) }
+fn yes(alloc: Global, claim: Claim) -> Result<Vec<u8>, NoMemory>
+    ensures { IfOk result (λ text. text.items ≡ text_of (Reply.Judged (Verdict.Yes claim))) }
 {
     let mut text = Vec::from_slice(alloc, b"yes ")?;
     push_claim(&mut text, claim)?;
+    text.extend_from_slice(b"\n")?;
     Ok(text)
 }
 
@@ -157,10 +113,8 @@ fn refused(alloc: Global, line: u64, fault: PlanFault) -> Result<Vec<u8>, NoMemo
 fn differs(alloc: Global, line: u64, found: u64) -> Result<Vec<u8>, NoMemory>
     ensures { IfOk result (λ text. text.items ≡ no_text line (Why.CostDiffers found)) }
 {
-    let mut buffer = [0; 24];
-    let len = print_micro(found, &mut buffer);
     let mut text = format!(in alloc; "no CostDiffers line {line} found ")?.into_bytes();
-    text.extend_from_slice(&buffer[..len])?;
+    push_micro(&mut text, found)?;
     text.extend_from_slice(b"\n")?;
     Ok(text)
 }
@@ -169,16 +123,8 @@ fn open(alloc: Global, line: u64, bound: i128, q: u32) -> Result<Vec<u8>, NoMemo
     ensures { IfOk result (λ text. text.items ≡ no_text line (Why.LeafOpen bound q)) }
 {
     let mut text = format!(in alloc; "no LeafOpen line {line} bound ")?.into_bytes();
-    push_bound(&mut text, bound)?;
+    push_number(&mut text, bound)?;
     let scale = format!(in alloc; " scale {q}\n")?;
     text.extend_from_slice(scale.as_bytes())?;
     Ok(text)
-}
-
-fn push_bound(text: &mut Vec<u8>, bound: i128) -> Result<(), AllocError>
-    ensures { OnOk result (text.new.items ≡ text.old.items ++ number_text bound) }
-{
-    let mut buffer = [0; 40];
-    let len = print_number(bound, &mut buffer);
-    text.extend_from_slice(&buffer[..len])
 }

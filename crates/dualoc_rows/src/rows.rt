@@ -359,7 +359,7 @@ fn prints_each_claim(rt: HostRuntime) -> Result<(), Fail> {
     ];
     for (claim, line) in claims {
         let expected = format!(in alloc; "dualoc-plan 1\n{line}\nend\n")?;
-        let text = plan_text(alloc, &inst, &claim, None)?;
+        let text = plan_text(alloc, &inst, claim, None)?;
         assert_eq!(rt; text.as_slice(), expected.as_bytes());
     }
     Ok(())

@@ -9,5 +9,5 @@ pub returns : goal.returns
 returns c =
     three_one_three (codes "no LeafOpen line ") (decimal c.args.line) (codes " bound ") (number_text c.args.bound) (codes " scale ") (decimal c.args.q) (codes "\n") _ _ _
     (ap (λ v. v.items) c.into_bytes-text.ensures.value ∙ c.in_ok-format.ensures.ok)
-    (c.in_ok-push_bound.ensures ∙ ap (λ z. c.into_bytes-text.result.items ++ number_text z) (to_z-of_z w128 c.args.bound c.ranges.bound))
-    (c.in_ok-extend_from_slice.ensures.items ∙ ap (λ t. c.push_bound.new.text.items ++ t) (c.as_bytes.ensures.value ∙ c.in_ok-scale.ensures.ok))
+    (c.in_ok-push_number.ensures ∙ ap (λ z. c.into_bytes-text.result.items ++ number_text z) (to_z-of_z w128 c.args.bound c.ranges.bound))
+    (c.in_ok-extend_from_slice.ensures.items ∙ ap (λ t. c.push_number.new.text.items ++ t) (c.as_bytes.ensures.value ∙ c.in_ok-scale.ensures.ok))
