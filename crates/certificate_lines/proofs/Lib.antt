@@ -9,7 +9,7 @@ pub mod Printed
 pub mod ReadBack
 pub mod Spelled
 pub mod Walks
+pub mod Values
 pub mod Places
 pub mod Served
 pub mod PricesSet
-pub mod ClaimSaid

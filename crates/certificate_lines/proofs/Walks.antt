@@ -7,11 +7,25 @@ use Rattle.location_terms.specs.declared.limits.TheConstants.{MAX_MULTIPLIER}
 use Rattle.location_terms.specs.Instance.{Instance}
 use Rattle.number_words.specs.Number.{is_number, is_plain_number, number_of, is_rising}
 use Rattle.certificate_lines.specs.declared.row.Count.{Count}
-use Rattle.certificate_lines.specs.Head.{allows, still_allows, is_above, plain_in}
+use Rattle.certificate_lines.specs.declared.row.Walk.{Walk}
+use Rattle.certificate_lines.specs.Head.{allows, still_allows, is_above, plain_ahead, plain_in}
 use Rattle.certificate_lines.specs.Lines.{Price, is_id, is_up_to, is_same, lacks_cap, is_in_range, sizes_shape}
 use Rattle.certificate_lines.specs.Shape.{Numbers, just}
 
--- one more number, where one more may stand
+-- a word that is a number
+pub given_number : (w : List ℕ) (plain : Bool) → Some plain ≡ (if is_number w then Some (is_plain_number w) else None) → (is_number w ≡ true) × (plain ≡ is_plain_number w)
+given_number w plain e = go (is_number w) e
+  where
+    go : (b : Bool) → Some plain ≡ (if b then Some (is_plain_number w) else None) → (b ≡ true) × (plain ≡ is_plain_number w)
+    go true e = (refl, cc)
+    go false e = absurd (cc)
+
+-- a walk over numbers goes past one more word
+also : (a b q enough : Bool) → option_map (λ r. (a && b) && r) (if enough then Some q else None) ≡ option_map (λ r. a && r) (if enough then Some (b && q) else None)
+also a b q false = refl
+also true b q true = refl
+also false b q true = refl
+
 numbers-more : (now : Count) (behind : Option Count) (w : List ℕ) (ws : List (List ℕ)) → ((n : ℕ) → allows now (n + 1) ≡ still_allows behind n) → is_number w ≡ true
     → plain_in (Numbers (allows now)) (w ∷ ws) ≡ (if list_all is_number ws && still_allows behind (length ws) then Some (is_plain_number w && list_all is_plain_number ws) else None)
 numbers-more now behind w ws step number =
@@ -20,20 +34,16 @@ numbers-more now behind w ws step number =
     ap (λ b. if (b && list_all is_number ws) && allows now (suc (length ws)) then plain else None) number
     ∙ ap (λ b. if list_all is_number ws && b then plain else None) (ap (allows now) one ∙ step (length ws))
 
-pub numbers-past : (now : Count) (w : List ℕ) (ws : List (List ℕ)) → ((n : ℕ) → allows now (n + 1) ≡ false) → is_number w ≡ true → plain_in (Numbers (allows now)) (w ∷ ws) ≡ None
-numbers-past now w ws step number = numbers-more now None w ws step number ∙ ap (λ b. if b then Some (is_plain_number w && list_all is_plain_number ws) else None) (and_right (list_all is_number ws) false refl)
+pub past_last : (walk : Walk) (w : List ℕ) (ws : List (List ℕ)) → ((n : ℕ) → allows walk.left (n + 1) ≡ false) → is_number w ≡ true → None ≡ plain_ahead (Some walk) (w ∷ ws)
+past_last walk w ws step number =
+    sym (ap (option_map (λ r. walk.plain && r)) (numbers-more walk.left None w ws step number ∙ ap (λ b. if b then Some (is_plain_number w && list_all is_plain_number ws) else None) (and_right (list_all is_number ws) false refl)))
 
-also : (a b q enough : Bool) → option_map (λ r. (a && b) && r) (if enough then Some q else None) ≡ option_map (λ r. a && r) (if enough then Some (b && q) else None)
-also a b q false = refl
-also true b q true = refl
-also false b q true = refl
-
-pub numbers-kept : (now behind : Count) (w : List ℕ) (ws : List (List ℕ)) (plain more : Bool) → ((n : ℕ) → allows now (n + 1) ≡ allows behind n) → is_number w ≡ true → more ≡ (plain && is_plain_number w)
-    → option_map (λ r. more && r) (plain_in (Numbers (allows behind)) ws) ≡ option_map (λ r. plain && r) (plain_in (Numbers (allows now)) (w ∷ ws))
-numbers-kept now behind w ws plain more step number is =
-    ap (λ m. option_map (λ r. m && r) (plain_in (Numbers (allows behind)) ws)) is
-    ∙ also plain (is_plain_number w) (list_all is_plain_number ws) (list_all is_number ws && allows behind (length ws))
-    ∙ sym (ap (option_map (λ r. plain && r)) (numbers-more now (Some behind) w ws step number))
+pub past_number : (walk : Walk) (left : Count) (plain : Bool) (w : List ℕ) (ws : List (List ℕ)) → ((n : ℕ) → allows walk.left (n + 1) ≡ allows left n) → is_number w ≡ true → plain ≡ (walk.plain && is_plain_number w)
+    → plain_ahead (Some (record { plain = plain; left = left })) ws ≡ plain_ahead (Some walk) (w ∷ ws)
+past_number walk left plain w ws step number is =
+    ap (λ m. option_map (λ r. m && r) (plain_in (Numbers (allows left)) ws)) is
+    ∙ also walk.plain (is_plain_number w) (list_all is_plain_number ws) (list_all is_number ws && allows left (length ws))
+    ∙ sym (ap (option_map (λ r. walk.plain && r)) (numbers-more walk.left (Some left) w ws step number))
 
 -- what all words pass, the first and those behind it pass
 pub first_and_rest : (p : List ℕ → Bool) (w : List ℕ) (ws vs : List (List ℕ)) → vs ≡ w ∷ ws → list_all p vs ≡ true → (p w ≡ true) × (list_all p ws ≡ true)

@@ -1,12 +1,10 @@
 -- What the readers of lines say to each other.
-use Rattle.std.specs.Prelude.{◌==◌, ℕ, ◌+◌, ◌%◌, min, Bool, true, false, ◌&&◌, List, [], ◌∷◌, length, map, drop, Option, None, Some, option_map, Err, ℤ, int_lt, bytes_eq, if◌then◌else◌}
+use Rattle.std.specs.Prelude.{◌==◌, ℕ, ◌%◌, Bool, true, false, ◌&&◌, List, [], ◌∷◌, length, map, drop, Option, None, Some, option_map, Err, ℤ, int_lt, bytes_eq, if◌then◌else◌}
 use Rattle.std.specs.List.{list_all}
-use Rattle.location_terms.specs.declared.claim.Claim.{Claim}
-use Rattle.location_terms.specs.declared.claim.Claim.TheVariants.{Optimal, Infeasible, Bracket}
-use Rattle.location_terms.specs.declared.limits.TheConstants.{MAX_COST}
 use Rattle.number_words.specs.Number.{is_number, is_plain_number, number_of}
 use Rattle.certificate_lines.specs.declared.kind.CertKind.{CertKind}
 use Rattle.certificate_lines.specs.declared.row.Count.{Count}
+use Rattle.certificate_lines.specs.declared.row.Walk.{Walk}
 use Rattle.certificate_lines.specs.declared.row.Count.TheVariants.{Any, Just, Even, Odd}
 use Rattle.certificate_lines.specs.Shape.{Shape, Numbers, Word, Number, any_count, just, even_count}
 use Rattle.certificate_lines.specs.Lines.{Said}
@@ -47,17 +45,12 @@ plain_in (Word word shape) (w ∷ ws) = if bytes_eq w word then plain_in shape w
 plain_in (Number shape) [] = None
 plain_in (Number shape) (w ∷ ws) = if is_number w then option_map (λ plain. is_plain_number w && plain) (plain_in shape ws) else None
 
+-- the same of all numbers that a walk goes past, where these words are ahead of it
+abbrev pub plain_ahead : Option Walk → List (List ℕ) → Option Bool
+plain_ahead None ws = None
+plain_ahead (Some walk) ws = option_map (λ plain. walk.plain && plain) (plain_in (Numbers (allows walk.left)) ws)
+
 -- whether a number is greater than the one before it, if there is one
 abbrev pub is_above : Option (List ℕ) → List ℕ → Bool
 is_above None w = true
 is_above (Some last) w = int_lt (number_of last) (number_of w)
-
--- a cost, or the first above the limit
-abbrev pub cost_within : ℕ → ℕ
-cost_within cost = min cost (MAX_COST + 1)
-
--- the claim with each cost so
-abbrev pub claim_within : Claim → Claim
-claim_within (Optimal cost) = Optimal (cost_within cost)
-claim_within Infeasible = Infeasible
-claim_within (Bracket low high) = Bracket (cost_within low) (option_map cost_within high)

@@ -1,11 +1,11 @@
 //! The line of the claim.
 
-ghost use Rattle.std.specs.Prelude.{◌≡◌, ◌∷◌, ◌&&◌, ◌||◌, [], true, not, nat_le, option_map};
+ghost use Rattle.std.specs.Prelude.{◌≡◌, ◌∷◌, ◌&&◌, ◌||◌, [], true, not, nat_le, bytes_eq, codes, Some, None, is_some, if◌then◌else◌};
+ghost use Rattle.location_terms.specs.declared.limits.TheConstants.{MAX_COST};
 ghost use Rattle.number_words.specs.Cost.{is_cost, spelled_cost};
 ghost use Rattle.number_words.specs.Line.{words_of_line, is_spaced};
 ghost use Rattle.certificate_lines.specs.Due.{behind_claim};
 ghost use Rattle.certificate_lines.specs.Model.{due_of, AnswersDue};
-ghost use Rattle.certificate_lines.specs.Head.{cost_within, claim_within};
 ghost use Rattle.certificate_lines.specs.Lines.{behind_first, begins, claim_in, has_plain_costs, has_small_costs, read_claim};
 
 use crate::row::behind_first;
@@ -22,16 +22,16 @@ pub(crate) fn read_claim(alloc: Global, line: &[u8]) -> Result<Due, LineFault>
     if !begins(line, b"claim") {
         return Err(LineFault::Line(CertKind::BadLine));
     }
-    let Some(claim) = claim_in(behind_first(line)) else {
+    if !is_claim(behind_first(line)) {
         return Err(LineFault::Line(CertKind::BadLine));
-    };
+    }
     if !is_plain(line) {
         return Err(LineFault::Line(CertKind::NotCanonical));
     }
     if !has_small_costs(behind_first(line)) {
         return Err(LineFault::Line(CertKind::OutOfRange));
     }
-    Ok(behind_claim(alloc, claim))
+    Ok(behind_claim(alloc, claim_in(behind_first(line))))
 }
 
 // Whether a line's first word is this one.
@@ -44,65 +44,68 @@ fn begins(line: &[u8], word: &[u8]) -> bool
     }
 }
 
-// The claim that words spell, each cost above the limit held at the first above it.
-fn claim_in(mut words: LineWords<'_>) -> Option<Claim>
-    ensures { result ≡ option_map claim_within (claim_in words.entry) }
+// Whether words spell a claim.
+fn is_claim(mut words: LineWords<'_>) -> bool
+    ensures { result ≡ is_some (claim_in words.entry) }
 {
-    let kind = words.next()?;
+    let Some(kind) = words.next() else {
+        return false;
+    };
     let Some(low) = words.next() else {
-        return no_cost(kind);
+        return kind == b"infeasible".as_slice();
     };
     let Some(high) = words.next() else {
-        return one_cost(kind, low);
+        return kind == b"optimal".as_slice() && is_cost(low);
     };
-    if words.next().is_some() {
-        return None;
-    }
-    two_costs(kind, low, high)
+    words.next().is_none() && is_bracket(kind, low, high)
 }
 
-fn no_cost(kind: &[u8]) -> Option<Claim>
-    ensures { result ≡ option_map claim_within (claim_in (kind.now ∷ [])) }
+fn is_bracket(kind: &[u8], low: &[u8], high: &[u8]) -> bool
+    ensures { result ≡ is_some (claim_in (kind.now ∷ low.now ∷ high.now ∷ [])) }
 {
-    if kind == b"infeasible".as_slice() {
-        Some(Claim::Infeasible)
-    } else {
+    kind == b"bracket".as_slice() && is_cost(low) && (high == b"none".as_slice() || is_cost(high))
+}
+
+// The claim that words spell, whose costs are within the limit.
+fn claim_in(mut words: LineWords<'_>) -> Claim
+    requires claim { is_some (claim_in words) ≡ true }
+    requires small { has_small_costs words ≡ true }
+    ensures { claim_in words.entry ≡ Some result }
+{
+    let _kind = words.next();
+    let Some(low) = words.next() else {
+        return Claim::Infeasible;
+    };
+    let low = small_cost(low);
+    match words.next() {
+        None => Claim::Optimal(low),
+        Some(high) => Claim::Bracket {
+            low,
+            high: high_end(high),
+        },
+    }
+}
+
+// The high end of a bracket, if it has one.
+fn high_end(word: &[u8]) -> Option<u64>
+    requires cost { bytes_eq word.now (codes "none") || is_cost word.now ≡ true }
+    requires small { has_small_costs (word.now ∷ []) ≡ true }
+    ensures { result ≡ (if bytes_eq word.now (codes "none") then None else Some (spelled_cost word.now)) }
+{
+    if word == b"none".as_slice() {
         None
-    }
-}
-
-fn one_cost(kind: &[u8], word: &[u8]) -> Option<Claim>
-    ensures { result ≡ option_map claim_within (claim_in (kind.now ∷ word.now ∷ [])) }
-{
-    if kind == b"optimal".as_slice() && is_cost(word) {
-        Some(Claim::Optimal(cost_within(word)))
     } else {
-        None
+        Some(small_cost(word))
     }
 }
 
-fn two_costs(kind: &[u8], low: &[u8], high: &[u8]) -> Option<Claim>
-    ensures { result ≡ option_map claim_within (claim_in (kind.now ∷ low.now ∷ high.now ∷ [])) }
+// A cost within the limit.
+fn small_cost(word: &[u8]) -> u64
+    requires cost { is_cost word.now ≡ true }
+    requires small { has_small_costs (word.now ∷ []) ≡ true }
+    ensures { result ≡ spelled_cost word.now }
 {
-    if !(kind == b"bracket".as_slice() && is_cost(low)) {
-        return None;
-    }
-    let low = cost_within(low);
-    if high == b"none".as_slice() {
-        return Some(Claim::Bracket { low, high: None });
-    }
-    if !is_cost(high) {
-        return None;
-    }
-    let high = Some(cost_within(high));
-    Some(Claim::Bracket { low, high })
-}
-
-fn cost_within(word: &[u8]) -> u64
-    requires { is_cost word.now ≡ true }
-    ensures { result ≡ cost_within (spelled_cost word.now) }
-{
-    cost(word).min(u128::from(MAX_COST) + 1) as u64
+    cost(word) as u64
 }
 
 // Whether a line is spelled in the one way.

@@ -3,7 +3,7 @@
 ghost use Rattle.std.specs.Prelude.{◌≡◌, ℤ, true, IsNone, is_some, codes, List};
 ghost use Rattle.std.specs.List.{list_all};
 ghost use Rattle.number_words.specs.Line.{words_of_line};
-ghost use Rattle.number_words.specs.Number.{is_number, is_plain_number, number_of};
+ghost use Rattle.number_words.specs.Number.{is_number, number_of};
 ghost use Rattle.certificate_lines.specs.Text.{ids_where, is_status};
 ghost use Rattle.certificate_lines.specs.Due.{Due as LineDue, MustClosedDue, ClaimDue, NothingShown};
 ghost use Rattle.certificate_lines.specs.Model.{due_of, AnswersDue};
@@ -12,12 +12,12 @@ ghost use Rattle.certificate_lines.specs.Shape.{any_count, row};
 ghost use Rattle.certificate_lines.specs.Lines.{Said, then_due, behind_first, same_ids, is_same, is_size, is_id, behind_sizes, sizes_shape, sizes_said, header_shape, sites_said, status_said, read_sizes, read_header, read_status, read_end, read_shape};
 ghost use Rattle.location_terms.specs.Box.{must_open, must_close};
 
-use crate::row::{Count, behind_first, plain_row, row_fault, shape_fault};
-use crate::seen::{fault_of, sites_seen};
+use crate::row::{Count, behind_first, plain_number, plain_row, row_fault, shape_fault};
+use crate::row_checks::{fault_of, sites_checked};
 use crate::{CertKind, Due, LineFault, is_all_free, is_status, version};
 use instance_store::Instance;
 use location_terms::{Claim, MAX_CUSTOMERS, MAX_SITES, SiteId, SiteStatus};
-use number_words::{LineWords, is_number, is_plain_number, number};
+use number_words::{LineWords, number};
 
 /// Reads the first line, which has version 1 where each site is free, and else version 2.
 pub(crate) fn read_header(inst: &Instance, line: &[u8]) -> Result<Due, LineFault>
@@ -59,12 +59,9 @@ fn plain_sizes(mut words: LineWords<'_>) -> Option<bool>
     if first != b"sites".as_slice() {
         return None;
     }
-    let sites = words.next()?;
-    if !is_number(sites) {
-        return None;
-    }
-    let plain = plain_row(words, b"customers", Count::Just(1))?;
-    Some(is_plain_number(sites) && plain)
+    let sites_plain = plain_number(words.next()?)?;
+    let customers_plain = plain_row(words, b"customers", Count::Just(1))?;
+    Some(sites_plain && customers_plain)
 }
 
 // What a line of sizes says.
@@ -129,7 +126,7 @@ pub(crate) fn sites_fault(inst: &Instance, line: &[u8], word: &[u8]) -> Option<C
 {
     match row_fault(line, word, Count::Any) {
         Some(kind) => Some(kind),
-        None => fault_of(sites_seen(inst, behind_first(line))),
+        None => fault_of(sites_checked(inst, behind_first(line))),
     }
 }
 

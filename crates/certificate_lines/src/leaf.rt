@@ -1,24 +1,27 @@
 //! The lines of a leaf behind its first: the duals of the customers, and the prices of the capacities.
 
-ghost use Rattle.std.specs.Prelude.{◌≡◌, ℕ, ℤ, List, true, map, IsNone, IfOk, Some, None, option_map, if◌then◌else◌};
+ghost use Rattle.std.specs.Prelude.{◌≡◌, ℕ, ℤ, List, true, map, codes, is_some, IsNone, IfOk};
 ghost use Rattle.std.specs.List.{list_all};
 ghost use Rattle.location_terms.specs.Instance.{site_ids};
 ghost use Rattle.location_terms.specs.Box.{Path as Steps};
 ghost use Rattle.location_terms.specs.declared.claim.Claim.{Claim};
 ghost use Rattle.location_terms.specs.declared.limits.TheConstants.{MAX_VALUE};
-ghost use Rattle.number_words.specs.Number.{is_number, is_rising};
+ghost use Rattle.number_words.specs.Line.{words_of_line};
+ghost use Rattle.number_words.specs.Number.{clamped, is_number, is_rising};
 ghost use Rattle.certificate_lines.specs.Due.{LeafShown, behind_leaf};
-ghost use Rattle.certificate_lines.specs.Head.{numbers, unless_found};
+ghost use Rattle.certificate_lines.specs.Head.{numbers, plain_in, unless_found};
 ghost use Rattle.certificate_lines.specs.Lines.{behind_first, is_of_size, is_among, is_in_range, then_due, pairs_of, price_in, duals_from, values_said, read_values, read_prices};
 ghost use Rattle.certificate_lines.specs.Model.{Answers, AnswersDue, due_of};
+ghost use Rattle.certificate_lines.specs.Shape.{Numbers, just, row};
 
-use crate::limited::{price_in, value_in};
-use crate::row::{Count, behind_first, row_fault};
-use crate::seen::{fault_of, place_in, prices_seen};
+use crate::limited::price_in;
+use crate::row::{Count, begun, behind_first, behind_number, plain_at_end, row_fault, shape_fault};
+use crate::row_checks::{fault_of, place_in, prices_checked};
 use crate::{CertKind, Due, LeafHead, LineFault, Shown};
 use branch_tree::{Duals, Path, pass_leaf};
 use instance_store::{Instance, NoMemory};
-use location_terms::Claim;
+use location_terms::{Claim, MAX_VALUE};
+use number_words::{LineWords, number};
 use std::alloc::Global;
 
 /// Reads a dual for each customer, behind the head of the leaf.
@@ -30,29 +33,64 @@ pub(crate) fn read_values(
 ) -> Result<Due, LineFault>
     ensures { AnswersDue result (read_values inst.now head.claim head.path head.q head.nu line.now) }
 {
-    if let Some(kind) = row_fault(line, b"v", Count::Just(inst.custs())) {
-        return Err(LineFault::Line(kind));
-    }
-    match value_list(alloc, line)? {
-        Some(values) => Ok(Due::Prices(head, values)),
-        None => Err(LineFault::Line(CertKind::OutOfRange)),
+    let row = value_row(alloc, line, inst.custs())?;
+    match shape_fault(line, row.plain) {
+        Some(kind) => Err(LineFault::Line(kind)),
+        None if !are_small(&row.values) => Err(LineFault::Line(CertKind::OutOfRange)),
+        None => Ok(Due::Prices(head, row.values)),
     }
 }
 
-// The numbers as duals, where each is within the limit.
-fn value_list(alloc: Global, line: &[u8]) -> Result<Option<Vec<i128>>, NoMemory>
-    requires { list_all is_number (behind_first line.now) ≡ true }
-    ensures { IfOk result (λ r. option_map (λ v. v.items) r ≡ (if list_all (is_of_size MAX_VALUE) (numbers (behind_first line.now)) then Some (numbers (behind_first line.now)) else None)) }
+// What one walk over a line of duals gives.
+#[derive(Drop)]
+struct ValueRow {
+    // Whether each number is in its one spelling, and `None` where the line is of another shape.
+    plain: Option<bool>,
+    // The numbers up to the first word that does not fit, each held at 10^30.
+    values: Vec<i128>,
+}
+
+// Walks over a line that is to be `v` and then so many numbers, of which no more are kept.
+fn value_row(alloc: Global, line: &[u8], count: usize) -> Result<ValueRow, NoMemory>
+    ensures plain { IfOk result (λ r. r.plain ≡ plain_in (row (codes "v") (just count)) (words_of_line line.now)) }
+    ensures values { IfOk result (λ r. is_some r.plain ≡ true → r.values.items ≡ map clamped (numbers (behind_first line.now))) }
 {
-    let mut list = Vec::new(alloc);
-    let mut words = behind_first(line);
-    while let Some(word) = words.next() {
-        let Some(value) = value_in(word) else {
-            return Ok(None);
-        };
-        list.push(value)?;
+    let mut words = LineWords::new(line);
+    match words.next() {
+        Some(first) if first == b"v".as_slice() => value_list(alloc, words, count),
+        _ => Ok(ValueRow {
+            plain: None,
+            values: Vec::new(alloc),
+        }),
     }
-    Ok(Some(list))
+}
+
+// Walks over so many numbers.
+fn value_list(alloc: Global, mut words: LineWords<'_>, count: usize) -> Result<ValueRow, NoMemory>
+    ensures plain { IfOk result (λ r. r.plain ≡ plain_in (Numbers (just count)) words.entry) }
+    ensures values { IfOk result (λ r. is_some r.plain ≡ true → r.values.items ≡ map clamped (numbers words.entry)) }
+{
+    let mut values = Vec::with_capacity(alloc, count)?;
+    let mut walk = begun(Count::Just(count));
+    while let Some(word) = words.next() {
+        let Some(behind) = behind_number(walk, word) else {
+            return Ok(ValueRow {
+                plain: None,
+                values,
+            });
+        };
+        walk = behind;
+        values.push(number(word))?;
+    }
+    let plain = plain_at_end(walk);
+    Ok(ValueRow { plain, values })
+}
+
+// Whether each value is one that a dual may have.
+fn are_small(values: &[i128]) -> bool
+    ensures { result ≡ list_all (is_of_size MAX_VALUE) values.now }
+{
+    values.iter().all(|value| value.unsigned_abs() <= MAX_VALUE)
 }
 
 /// Reads the prices of the capacities, each behind the id of its site, which end a leaf.
@@ -84,7 +122,7 @@ fn prices_fault(inst: &Instance, line: &[u8]) -> Option<CertKind>
 {
     match row_fault(line, b"u", Count::Even) {
         Some(kind) => Some(kind),
-        None => fault_of(prices_seen(inst, behind_first(line))),
+        None => fault_of(prices_checked(inst, behind_first(line))),
     }
 }
 

@@ -13,7 +13,7 @@ mod line;
 mod node;
 mod plan_lines;
 mod row;
-mod seen;
+mod row_checks;
 mod statuses;
 
 pub use fault::CertFault;

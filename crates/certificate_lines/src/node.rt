@@ -1,16 +1,17 @@
 //! The lines of a tree's nodes: a split on a site, a split on a lane, or the first line of a leaf.
 
-ghost use Rattle.std.specs.Prelude.{◌≡◌, ◌&&◌, true};
+ghost use Rattle.std.specs.Prelude.{◌≡◌, ◌&&◌, true, ℤ, List, [], ◌∷◌, length, IfOk, IfErr};
 ghost use Rattle.std.specs.List.{list_all};
 ghost use Rattle.location_terms.specs.Instance.{site_ids, customer_ids};
 ghost use Rattle.number_words.specs.Number.{is_number, number_of};
 ghost use Rattle.certificate_lines.specs.Head.{numbers};
-ghost use Rattle.certificate_lines.specs.Lines.{behind_first, is_among, is_id, site_shape, lane_shape, leaf_shape, site_said, lane_said, leaf_said, read_shape, read_node};
-ghost use Rattle.certificate_lines.specs.Model.{Answers};
+ghost use Rattle.certificate_lines.specs.Lines.{Said, behind_first, is_among, is_id, site_shape, lane_shape, leaf_shape, site_said, lane_said, leaf_said, read_shape, read_node};
+ghost use Rattle.certificate_lines.specs.Model.{Answers, IsFaultOf};
+ghost use Rattle.certificate_lines.specs.Shape.{just, row};
 
 use crate::limited::{scale_in, value_in};
 use crate::row::{Count, behind_first, id_in, row_fault};
-use crate::seen::place_in;
+use crate::row_checks::place_in;
 use crate::{CertKind, Due, LeafHead, LineFault, Shown};
 use branch_tree::{Decision, Path};
 use instance_store::Instance;
@@ -33,35 +34,19 @@ pub(crate) fn read_node(
     }
 }
 
-// A split on a site.
+// A split on a site. The child in which the site is closed comes first.
 fn read_site(
-    inst: &Instance,
-    claim: Claim,
-    path: Path,
-    line: &[u8],
-) -> Result<(Due, Shown), LineFault>
-    ensures { Answers result (read_shape site_shape line.now (site_said inst.now claim path)) }
-{
-    match row_fault(line, b"site", Count::Just(1)) {
-        Some(kind) => Err(LineFault::Line(kind)),
-        None => site_said(inst, claim, path, line),
-    }
-}
-
-// What a split on a site says. The child in which the site is closed comes first.
-fn site_said(
     inst: &Instance,
     claim: Claim,
     mut path: Path,
     line: &[u8],
 ) -> Result<(Due, Shown), LineFault>
-    requires { list_all is_number (behind_first line.now) ≡ true }
-    ensures { Answers result (site_said inst.now claim path (numbers (behind_first line.now))) }
+    ensures { Answers result (read_shape site_shape line.now (site_said inst.now claim path)) }
 {
-    let mut words = behind_first(line);
-    let (Some(site), None) = (words.next(), words.next()) else {
-        return Err(LineFault::Line(CertKind::BadLine));
-    };
+    if let Some(kind) = row_fault(line, b"site", Count::Just(1)) {
+        return Err(LineFault::Line(kind));
+    }
+    let site = behind_first(line).next().unwrap();
     let Some(id) = id_in(site) else {
         return Err(LineFault::Line(CertKind::OutOfRange));
     };
@@ -73,35 +58,16 @@ fn site_said(
     Ok((Due::Node(claim, path), Shown::Site(site)))
 }
 
-// A split on a lane.
+// A split on a lane. The child in which the lane is not used comes first.
 fn read_lane(
-    inst: &Instance,
-    claim: Claim,
-    path: Path,
-    line: &[u8],
-) -> Result<(Due, Shown), LineFault>
-    ensures { Answers result (read_shape lane_shape line.now (lane_said inst.now claim path)) }
-{
-    match row_fault(line, b"lane", Count::Just(2)) {
-        Some(kind) => Err(LineFault::Line(kind)),
-        None => lane_said(inst, claim, path, line),
-    }
-}
-
-// What a split on a lane says. The child in which the lane is not used comes first.
-fn lane_said(
     inst: &Instance,
     claim: Claim,
     mut path: Path,
     line: &[u8],
 ) -> Result<(Due, Shown), LineFault>
-    requires { list_all is_number (behind_first line.now) ≡ true }
-    ensures { Answers result (lane_said inst.now claim path (numbers (behind_first line.now))) }
+    ensures { Answers result (read_shape lane_shape line.now (lane_said inst.now claim path)) }
 {
-    let mut words = behind_first(line);
-    let (Some(site), Some(cust), None) = (words.next(), words.next(), words.next()) else {
-        return Err(LineFault::Line(CertKind::BadLine));
-    };
+    let (site, cust) = two_numbers(line, b"lane")?;
     let (Some(site_id), Some(cust_id)) = (id_in(site), id_in(cust)) else {
         return Err(LineFault::Line(CertKind::OutOfRange));
     };
@@ -114,30 +80,42 @@ fn lane_said(
     Ok((Due::Node(claim, path), Shown::Lane(site, cust)))
 }
 
-// The first line of a leaf.
+// The first line of a leaf: its scale, and its price on the number of sites.
 fn read_leaf(claim: Claim, path: Path, line: &[u8]) -> Result<(Due, Shown), LineFault>
     ensures { Answers result (read_shape leaf_shape line.now (leaf_said claim path)) }
 {
-    match row_fault(line, b"leaf", Count::Just(2)) {
-        Some(kind) => Err(LineFault::Line(kind)),
-        None => leaf_said(claim, path, line),
-    }
-}
-
-// What the first line of a leaf says: its scale, and its price on the number of sites.
-fn leaf_said(claim: Claim, path: Path, line: &[u8]) -> Result<(Due, Shown), LineFault>
-    requires { list_all is_number (behind_first line.now) ≡ true }
-    ensures { Answers result (leaf_said claim path (numbers (behind_first line.now))) }
-{
-    let mut words = behind_first(line);
-    let (Some(q), Some(nu), None) = (words.next(), words.next(), words.next()) else {
-        return Err(LineFault::Line(CertKind::BadLine));
-    };
+    let (q, nu) = two_numbers(line, b"leaf")?;
     let (Some(q), Some(nu)) = (scale_in(q), value_in(nu)) else {
         return Err(LineFault::Line(CertKind::OutOfRange));
     };
     let head = LeafHead { claim, path, q, nu };
     Ok((Due::Values(head), Shown::Nothing))
+}
+
+// The numbers of a line that is to be this word and then two numbers.
+fn two_numbers<'a>(line: &'a [u8], word: &[u8]) -> Result<(&'a [u8], &'a [u8]), LineFault>
+    ensures said { IfOk result (λ p. (say : List ℤ → Said) → read_shape (row word.now (just 2)) line.now say ≡ say (number_of p.0.now ∷ number_of p.1.now ∷ [])) }
+    ensures fault { IfErr result (λ f. (say : List ℤ → Said) → IsFaultOf f (read_shape (row word.now (just 2)) line.now say)) }
+    ensures first { IfOk result (λ p. is_number p.0.now ≡ true) }
+    ensures second { IfOk result (λ p. is_number p.1.now ≡ true) }
+{
+    match row_fault(line, word, Count::Just(2)) {
+        Some(kind) => Err(LineFault::Line(kind)),
+        None => Ok(pair_behind_first(line)),
+    }
+}
+
+// The numbers of a line that has two.
+fn pair_behind_first(line: &[u8]) -> (&[u8], &[u8])
+    requires numbers { list_all is_number (behind_first line.now) ≡ true }
+    requires count { length (behind_first line.now) ≡ 2 }
+    ensures first { is_number result.0.now ≡ true }
+    ensures second { is_number result.1.now ≡ true }
+    ensures values { numbers (behind_first line.now) ≡ number_of result.0.now ∷ number_of result.1.now ∷ [] }
+{
+    let mut words = behind_first(line);
+    let first = words.next().unwrap();
+    (first, words.next().unwrap())
 }
 
 // Whether two numbers are the ids of a site and of a customer of the instance.

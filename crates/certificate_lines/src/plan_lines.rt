@@ -13,7 +13,7 @@ ghost use Rattle.certificate_lines.specs.Lines.{then_due, behind_first, ids, is_
 
 use crate::head::sites_fault;
 use crate::row::{Count, behind_first, row_fault, site_list};
-use crate::seen::{fault_of, sites_seen};
+use crate::row_checks::{fault_of, servers_checked};
 use crate::{CertKind, Due, LineFault, Shown};
 use dual_value::Path;
 use instance_store::{Instance, NoMemory};
@@ -68,11 +68,7 @@ fn serve_fault(inst: &Instance, line: &[u8]) -> Option<CertKind>
 {
     match row_fault(line, b"serve", Count::Just(inst.custs())) {
         Some(kind) => Some(kind),
-        None => {
-            let mut seen = sites_seen(inst, behind_first(line));
-            seen.canonical = true;
-            fault_of(seen)
-        }
+        None => fault_of(servers_checked(inst, behind_first(line))),
     }
 }
 

@@ -1,11 +1,11 @@
 //! Rows: a word, and then numbers to the end of the line. A line may have any number of words, and
 //! numbers of any length.
 
-ghost use Rattle.std.specs.Prelude.{◌≡◌, ℕ, ℤ, ◌+◌, ◌&&◌, true, List, Some, None, IsNone, IfOk, length, unsigned_abs, if◌then◌else◌};
+ghost use Rattle.std.specs.Prelude.{◌≡◌, ℕ, ℤ, ◌+◌, true, List, [], ◌∷◌, Some, None, IsNone, IfSome, IfOk, length, unsigned_abs, if◌then◌else◌};
 ghost use Rattle.std.specs.List.{list_all};
 ghost use Rattle.number_words.specs.Line.{words_of_line};
 ghost use Rattle.number_words.specs.Number.{is_number, is_plain_number, number_of};
-ghost use Rattle.certificate_lines.specs.Head.{allows, still_allows, numbers, numbers_at, plain_in, unless_found};
+ghost use Rattle.certificate_lines.specs.Head.{allows, still_allows, numbers, numbers_at, plain_ahead, plain_in, unless_found};
 ghost use Rattle.certificate_lines.specs.Lines.{Said, behind_first, ids, is_id, read_shape};
 ghost use Rattle.certificate_lines.specs.Shape.{Shape, Numbers, row};
 
@@ -66,26 +66,68 @@ pub(crate) fn plain_row(mut words: LineWords<'_>, word: &[u8], count: Count) -> 
 fn plain_numbers(mut words: LineWords<'_>, count: Count) -> Option<bool>
     ensures { result ≡ plain_in (Numbers (allows count)) words.entry }
 {
-    let mut plain = true;
-    let mut left = count;
+    let mut walk = begun(count);
     while let Some(word) = words.next() {
-        if !is_number(word) {
-            return None;
-        }
-        let Some(behind) = behind_one(left) else {
-            return None;
-        };
-        left = behind;
-        plain = is_also_plain(plain, word);
+        walk = behind_number(walk, word)?;
     }
-    if is_enough(left) { Some(plain) } else { None }
+    plain_at_end(walk)
 }
 
-// Whether a number is in its one spelling, as those before it.
-fn is_also_plain(plain: bool, word: &[u8]) -> bool
-    ensures { result ≡ (plain && is_plain_number word.now) }
+/// A walk over numbers, of which some are behind it.
+#[derive(Clone, Copy)]
+pub(crate) struct Walk {
+    /// Whether each number behind it is in its one spelling.
+    pub plain: bool,
+    /// How many numbers there may be ahead.
+    pub left: Count,
+}
+
+/// The walk that has gone past no number.
+pub(crate) fn begun(count: Count) -> Walk
+    ensures { (ws : List (List ℕ)) → plain_ahead (Some result) ws ≡ plain_in (Numbers (allows count)) ws }
 {
-    plain && is_plain_number(word)
+    Walk {
+        plain: true,
+        left: count,
+    }
+}
+
+/// The walk past one more word, and `None` where that is no number or one too many.
+pub(crate) fn behind_number(walk: Walk, word: &[u8]) -> Option<Walk>
+    ensures walked { (ws : List (List ℕ)) → plain_ahead result ws ≡ plain_ahead (Some walk) (word.now ∷ ws) }
+    ensures number { IfSome result (λ _. is_number word.now ≡ true) }
+{
+    let plain = plain_number(word)?;
+    let left = behind_one(walk.left)?;
+    Some(Walk {
+        plain: walk.plain & plain,
+        left,
+    })
+}
+
+/// Whether each number is in its one spelling where the walk ends, and `None` where more are due.
+pub(crate) fn plain_at_end(walk: Walk) -> Option<bool>
+    ensures { result ≡ plain_ahead (Some walk) [] }
+{
+    if is_enough(walk.left) {
+        Some(walk.plain)
+    } else {
+        None
+    }
+}
+
+/// Whether a number is in its one spelling, and `None` where a word is no number. Most numbers are, and
+/// their digits are gone over once.
+pub(crate) fn plain_number(word: &[u8]) -> Option<bool>
+    ensures { result ≡ (if is_number word.now then Some (is_plain_number word.now) else None) }
+{
+    if is_plain_number(word) {
+        Some(true)
+    } else if is_number(word) {
+        Some(false)
+    } else {
+        None
+    }
 }
 
 // How many numbers there may be behind one more.

@@ -10,4 +10,4 @@ pub returns-in-None-clause-rising : goal.returns-in-None-clause-rising
 returns-in-None-clause-rising c = λ none.
     let ps = pairs_of (numbers (behind_first c.args.line.now)) in
     (and_parts (is_rising (map (λ (p : Price). p.0) ps)) (list_all (λ (p : Price). not (is_same p.1 0)) ps)
-    (sym (c.prices_seen.ensures.canonical ∙ ap (λ ws. is_rising (map (λ (p : Price). p.0) (pairs_of (numbers ws))) && list_all (λ (p : Price). not (is_same p.1 0)) (pairs_of (numbers ws))) c.behind_first.ensures) ∙ c.fault_of.ensures.canonical none)).0
+    (sym (c.prices_checked.ensures.canonical ∙ ap (λ ws. is_rising (map (λ (p : Price). p.0) (pairs_of (numbers ws))) && list_all (λ (p : Price). not (is_same p.1 0)) (pairs_of (numbers ws))) c.behind_first.ensures) ∙ c.fault_of.ensures.canonical none)).0

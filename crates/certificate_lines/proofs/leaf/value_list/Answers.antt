@@ -1,8 +1,21 @@
-use Rattle.std.proofs.Common.{◌≡◌, true, subst}
-use Rattle.std.specs.List.{list_all}
-use Rattle.std.proofs.lemmas.Bool.{and_parts}
-use Rattle.number_words.specs.Number.{is_number}
+use Rattle.std.proofs.Common.{Some, List, [], ◌∷◌, ◌++◌, append_assoc, map, sym, ap, ◌∙◌}
+use mir.Syntax.{w128}
+use mir.Val.{to_z, of_z}
+use Rattle.std.specs.Prelude.{ℤ}
+use Rattle.std.proofs.lemmas.Int.{to_z-of_z}
+use Rattle.number_words.specs.Number.{clamped}
+use Rattle.certificate_lines.specs.Head.{numbers, plain_ahead}
 use Rattle.certificate_lines.proofs.leaf.value_list.Goals as goal
 
-pub value_in-requires : goal.value_in-requires
-value_in-requires c = (and_parts (is_number c.in-Some.word.now) (list_all is_number c.next.new.self) (subst (λ ws. list_all is_number ws ≡ true) c.in-Some.ensures.steps c.loop-word.invariant.are_numbers)).0
+pub loop-word-preserved : goal.loop-word-preserved
+loop-word-preserved c =
+    let kept = c.loop-word.values.items in
+    let behind = map clamped (numbers c.next.new.self) in
+    record {
+      plain = c.in-Some-behind_number.ensures.walked c.next.new.self ∙ ap (plain_ahead (Some c.loop-word.walk)) (sym c.in-Some.ensures.steps) ∙ c.loop-word.invariant.plain;
+      whole = ap (λ (vs : List ℤ). vs ++ behind) c.in_ok-push.ensures.items
+          ∙ append_assoc kept (to_z w128 (of_z w128 c.number.result) ∷ []) behind
+          ∙ ap (λ v. kept ++ v ∷ behind) (to_z-of_z w128 c.number.result (record { sfits = c.number.type_inv }) ∙ c.number.ensures)
+          ∙ ap (λ ws. kept ++ map clamped (numbers ws)) (sym c.in-Some.ensures.steps)
+          ∙ c.loop-word.invariant.whole;
+    }

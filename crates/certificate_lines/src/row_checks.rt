@@ -1,4 +1,4 @@
-//! Tests that are made of each number of a row in one walk, since a fault of the one kind that comes late
+//! Checks that are made of each number of a row in one walk, since a fault of the one kind that comes late
 //! in the line goes before one of another kind that comes early.
 
 ghost use Rattle.std.specs.Prelude.{◌≡◌, ◌<◌, ◌&&◌, true, not, pos, map, length, option_map, is_some, IfSome, IsNone};
@@ -17,9 +17,9 @@ use instance_store::Instance;
 use location_terms::SiteId;
 use number_words::{LineWords, number, rises};
 
-/// What is seen of the numbers of a row, in the order of the faults.
+/// Which checks the numbers of a row pass, in the order of the faults.
 #[derive(Clone, Copy)]
-pub(crate) struct Seen {
+pub(crate) struct RowChecks {
     /// They stand in the one order, and none of them could be left away.
     pub canonical: bool,
     /// Each is within its limits.
@@ -28,99 +28,130 @@ pub(crate) struct Seen {
     pub known: bool,
 }
 
-/// The first fault that is seen.
-pub(crate) fn fault_of(seen: Seen) -> Option<CertKind>
-    ensures said { (rest : Said) → unless seen.canonical NotCanonical (unless seen.in_range OutOfRange (unless seen.known UnknownId rest)) ≡ unless_found result rest }
-    ensures canonical { IsNone result → seen.canonical ≡ true }
-    ensures in_range { IsNone result → seen.in_range ≡ true }
-    ensures known { IsNone result → seen.known ≡ true }
+/// The fault of the first check that fails.
+pub(crate) fn fault_of(checks: RowChecks) -> Option<CertKind>
+    ensures said { (rest : Said) → unless checks.canonical NotCanonical (unless checks.in_range OutOfRange (unless checks.known UnknownId rest)) ≡ unless_found result rest }
+    ensures canonical { IsNone result → checks.canonical ≡ true }
+    ensures in_range { IsNone result → checks.in_range ≡ true }
+    ensures known { IsNone result → checks.known ≡ true }
 {
-    if !seen.canonical {
+    if !checks.canonical {
         Some(CertKind::NotCanonical)
-    } else if !seen.in_range {
+    } else if !checks.in_range {
         Some(CertKind::OutOfRange)
-    } else if !seen.known {
+    } else if !checks.known {
         Some(CertKind::UnknownId)
     } else {
         None
     }
 }
 
-/// What is seen of numbers that are to be ids of sites, rising.
-pub(crate) fn sites_seen(inst: &Instance, mut words: LineWords<'_>) -> Seen
+// What no number fails.
+fn all_passed() -> RowChecks
+    ensures canonical { result.canonical ≡ true }
+    ensures in_range { result.in_range ≡ true }
+    ensures known { result.known ≡ true }
+{
+    RowChecks {
+        canonical: true,
+        in_range: true,
+        known: true,
+    }
+}
+
+/// The checks of numbers that are to be ids of sites, rising.
+pub(crate) fn sites_checked(inst: &Instance, mut words: LineWords<'_>) -> RowChecks
     requires numbers { list_all is_number words ≡ true }
     requires plain { list_all is_plain_number words ≡ true }
     ensures canonical { result.canonical ≡ is_rising (numbers words.entry) }
     ensures in_range { result.in_range ≡ list_all is_id (numbers words.entry) }
     ensures known { result.known ≡ list_all (is_among (site_ids inst.now)) (numbers words.entry) }
 {
-    let mut seen = Seen {
-        canonical: true,
-        in_range: true,
-        known: true,
-    };
+    let mut checks = all_passed();
     let mut last = None;
     while let Some(word) = words.next() {
-        seen = with_site(seen, inst, last, word);
+        checks = with_site(checks, inst, last, word);
         last = Some(word);
     }
-    seen
+    checks
 }
 
-// What is seen with one more site.
-fn with_site(seen: Seen, inst: &Instance, last: Option<&[u8]>, word: &[u8]) -> Seen
+/// The checks of numbers that are to be ids of sites, in any order.
+pub(crate) fn servers_checked(inst: &Instance, mut words: LineWords<'_>) -> RowChecks
+    requires { list_all is_number words ≡ true }
+    ensures canonical { result.canonical ≡ true }
+    ensures in_range { result.in_range ≡ list_all is_id (numbers words.entry) }
+    ensures known { result.known ≡ list_all (is_among (site_ids inst.now)) (numbers words.entry) }
+{
+    let mut checks = all_passed();
+    while let Some(word) = words.next() {
+        checks = with_id(checks, inst, word);
+    }
+    checks
+}
+
+// The checks with one more site, which is to be greater than the last.
+fn with_site(checks: RowChecks, inst: &Instance, last: Option<&[u8]>, word: &[u8]) -> RowChecks
     requires number { is_number word.now ≡ true }
     requires plain { is_plain_number word.now ≡ true }
     requires last_number { IfSome last (λ w. is_number w.now ≡ true) }
     requires last_plain { IfSome last (λ w. is_plain_number w.now ≡ true) }
-    ensures canonical { result.canonical ≡ (seen.canonical && is_above (option_map (λ w. w.now) last.entry) word.now) }
-    ensures in_range { result.in_range ≡ (seen.in_range && is_id (number_of word.now)) }
-    ensures known { result.known ≡ (seen.known && is_among (site_ids inst.now) (number_of word.now)) }
+    ensures canonical { result.canonical ≡ (checks.canonical && is_above (option_map (λ w. w.now) last.entry) word.now) }
+    ensures in_range { result.in_range ≡ (checks.in_range && is_id (number_of word.now)) }
+    ensures known { result.known ≡ (checks.known && is_among (site_ids inst.now) (number_of word.now)) }
 {
-    Seen {
-        canonical: seen.canonical & is_above(last, word),
-        in_range: seen.in_range & id_in(word).is_some(),
-        known: seen.known & place_in(inst, word).is_some(),
+    let mut more = with_id(checks, inst, word);
+    more.canonical &= is_above(last, word);
+    more
+}
+
+// The checks with one more site.
+fn with_id(checks: RowChecks, inst: &Instance, word: &[u8]) -> RowChecks
+    requires { is_number word.now ≡ true }
+    ensures canonical { result.canonical ≡ checks.canonical }
+    ensures in_range { result.in_range ≡ (checks.in_range && is_id (number_of word.now)) }
+    ensures known { result.known ≡ (checks.known && is_among (site_ids inst.now) (number_of word.now)) }
+{
+    RowChecks {
+        canonical: checks.canonical,
+        in_range: checks.in_range & id_in(word).is_some(),
+        known: checks.known & place_in(inst, word).is_some(),
     }
 }
 
-/// What is seen of numbers that are to be ids of sites, each with the price of its capacity.
-pub(crate) fn prices_seen(inst: &Instance, mut words: LineWords<'_>) -> Seen
+/// The checks of numbers that are to be ids of sites, rising, each with the price of its capacity.
+pub(crate) fn prices_checked(inst: &Instance, mut words: LineWords<'_>) -> RowChecks
     requires numbers { list_all is_number words ≡ true }
     requires plain { list_all is_plain_number words ≡ true }
     ensures canonical { result.canonical ≡ (is_rising (map (λ p. p.0) (pairs_of (numbers words.entry))) && list_all (λ p. not (is_same p.1 0)) (pairs_of (numbers words.entry))) }
     ensures in_range { result.in_range ≡ list_all (is_in_range inst.now) (pairs_of (numbers words.entry)) }
     ensures known { result.known ≡ list_all (λ p. is_among (site_ids inst.now) p.0) (pairs_of (numbers words.entry)) }
 {
-    let mut seen = Seen {
-        canonical: true,
-        in_range: true,
-        known: true,
-    };
+    let mut checks = all_passed();
     let mut last = None;
     while let Some(site) = words.next() {
         let Some(price) = words.next() else {
-            return seen;
+            return checks;
         };
-        let with_site = with_site(seen, inst, last, site);
-        seen = with_price(with_site, inst, site, price);
+        let with_site = with_site(checks, inst, last, site);
+        checks = with_price(with_site, inst, site, price);
         last = Some(site);
     }
-    seen
+    checks
 }
 
-// What is seen with the price of a site's capacity behind the site.
-fn with_price(seen: Seen, inst: &Instance, site: &[u8], price: &[u8]) -> Seen
+// The checks with the price of a site's capacity behind the site.
+fn with_price(checks: RowChecks, inst: &Instance, site: &[u8], price: &[u8]) -> RowChecks
     requires site { is_number site.now ≡ true }
     requires price { is_number price.now ≡ true }
-    ensures canonical { result.canonical ≡ (seen.canonical && not (is_same (number_of price.now) 0)) }
-    ensures in_range { result.in_range ≡ (seen.in_range && is_up_to MAX_MULTIPLIER (number_of price.now) && not (lacks_cap inst.now (number_of site.now))) }
-    ensures known { result.known ≡ seen.known }
+    ensures canonical { result.canonical ≡ (checks.canonical && not (is_same (number_of price.now) 0)) }
+    ensures in_range { result.in_range ≡ (checks.in_range && is_up_to MAX_MULTIPLIER (number_of price.now) && not (lacks_cap inst.now (number_of site.now))) }
+    ensures known { result.known ≡ checks.known }
 {
-    Seen {
-        canonical: seen.canonical & !is_zero(price),
-        in_range: seen.in_range & price_in(price).is_some() & !lacks_cap(inst, site),
-        known: seen.known,
+    RowChecks {
+        canonical: checks.canonical & !is_zero(price),
+        in_range: checks.in_range & price_in(price).is_some() & !lacks_cap(inst, site),
+        known: checks.known,
     }
 }
 

@@ -3,7 +3,7 @@ use Rattle.location_terms.specs.Instance.{site_ids}
 use Rattle.number_words.specs.Number.{number_of}
 use Rattle.certificate_lines.proofs.Places.{not_an_id}
 use Rattle.certificate_lines.proofs.Places.{is_among-place}
-use Rattle.certificate_lines.proofs.seen.place_in.Goals as goal
+use Rattle.certificate_lines.proofs.row_checks.place_in.Goals as goal
 
 pub returns-in-Some-clause-known : goal.returns-in-Some-clause-known
 returns-in-Some-clause-known c =

@@ -2,7 +2,7 @@ use Rattle.std.proofs.Common.{◌≡◌, rules, ap, ◌∙◌, sym}
 use Rattle.std.specs.Prelude.{is_none}
 use Rattle.number_words.specs.Number.{number_of}
 use Rattle.certificate_lines.proofs.Places.{unknown-lacks, lacks_cap-at}
-use Rattle.certificate_lines.proofs.seen.lacks_cap.Goals as goal
+use Rattle.certificate_lines.proofs.row_checks.lacks_cap.Goals as goal
 
 pub returns-in-Some : goal.returns-in-Some
 returns-in-Some c =

@@ -6,7 +6,7 @@ use Rattle.number_words.specs.Number.{is_number, is_plain_number, is_rising}
 use Rattle.certificate_lines.specs.Head.{numbers}
 use Rattle.certificate_lines.specs.Lines.{is_id, is_among}
 use Rattle.certificate_lines.proofs.Walks.{behind}
-use Rattle.certificate_lines.proofs.seen.sites_seen.Given as goal
+use Rattle.certificate_lines.proofs.row_checks.sites_checked.Given as goal
 
 abbrev pub invariant-loop-word : goal.invariant-loop-word
 invariant-loop-word l = record {
@@ -14,7 +14,7 @@ invariant-loop-word l = record {
   are_plain : list_all is_plain_number l.words ≡ true;
   last_number : IfSome l.last (λ w. is_number w.now ≡ true);
   last_plain : IfSome l.last (λ w. is_plain_number w.now ≡ true);
-  canonical : l.seen.canonical && is_rising (behind (option_map (λ w. w.now) l.last) (numbers l.words)) ≡ is_rising (numbers l.fn.words);
-  in_range : l.seen.in_range && list_all is_id (numbers l.words) ≡ list_all is_id (numbers l.fn.words);
-  known : l.seen.known && list_all (is_among (site_ids l.inst)) (numbers l.words) ≡ list_all (is_among (site_ids l.inst)) (numbers l.fn.words);
+  canonical : l.checks.canonical && is_rising (behind (option_map (λ w. w.now) l.last) (numbers l.words)) ≡ is_rising (numbers l.fn.words);
+  in_range : l.checks.in_range && list_all is_id (numbers l.words) ≡ list_all is_id (numbers l.fn.words);
+  known : l.checks.known && list_all (is_among (site_ids l.inst)) (numbers l.words) ≡ list_all (is_among (site_ids l.inst)) (numbers l.fn.words);
 }

@@ -6,13 +6,13 @@ use Rattle.number_words.specs.Number.{is_number, is_plain_number, number_of, is_
 use Rattle.certificate_lines.specs.Head.{numbers}
 use Rattle.certificate_lines.specs.Lines.{is_id, is_among}
 use Rattle.certificate_lines.proofs.Walks.{behind, first_and_rest, more-rising, more-tested}
-use Rattle.certificate_lines.proofs.seen.sites_seen.Goals as goal
+use Rattle.certificate_lines.proofs.row_checks.sites_checked.Goals as goal
 
 pub loop-word-preserved : goal.loop-word-preserved
 loop-word-preserved c =
     let kept = c.loop-word.invariant in
-    let seen = c.loop-word.seen in
-    let now = c.with_site-seen in
+    let checks = c.loop-word.checks in
+    let now = c.with_site-checks in
     let last = option_map (λ w. w.now) c.loop-word.last in
     let word = c.in-Some.word.now in
     let rest = c.next.new.self in
@@ -24,10 +24,10 @@ loop-word-preserved c =
       are_plain = are_plain.1;
       last_number = are_numbers.0;
       last_plain = are_plain.0;
-      canonical = more-rising last word (numbers rest) seen.canonical now.result.canonical now.ensures.canonical
-          ∙ ap (λ ws. seen.canonical && is_rising (behind last (numbers ws))) (sym steps) ∙ kept.canonical;
-      in_range = more-tested is_id (number_of word) (numbers rest) seen.in_range now.result.in_range now.ensures.in_range
-          ∙ ap (λ ws. seen.in_range && list_all is_id (numbers ws)) (sym steps) ∙ kept.in_range;
-      known = more-tested (is_among (site_ids c.args.inst.now)) (number_of word) (numbers rest) seen.known now.result.known now.ensures.known
-          ∙ ap (λ ws. seen.known && list_all (is_among (site_ids c.args.inst.now)) (numbers ws)) (sym steps) ∙ kept.known;
+      canonical = more-rising last word (numbers rest) checks.canonical now.result.canonical now.ensures.canonical
+          ∙ ap (λ ws. checks.canonical && is_rising (behind last (numbers ws))) (sym steps) ∙ kept.canonical;
+      in_range = more-tested is_id (number_of word) (numbers rest) checks.in_range now.result.in_range now.ensures.in_range
+          ∙ ap (λ ws. checks.in_range && list_all is_id (numbers ws)) (sym steps) ∙ kept.in_range;
+      known = more-tested (is_among (site_ids c.args.inst.now)) (number_of word) (numbers rest) checks.known now.result.known now.ensures.known
+          ∙ ap (λ ws. checks.known && list_all (is_among (site_ids c.args.inst.now)) (numbers ws)) (sym steps) ∙ kept.known;
     }
