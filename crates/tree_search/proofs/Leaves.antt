@@ -1,5 +1,5 @@
 -- What is found of a leaf while it is made.
-use Rattle.std.proofs.Common.{◌≡◌, ℕ, ◌≤◌, refl, inl, inr, sym, ap, subst, ◌∙◌, arith, length, true, false, List, ℤ, pos}
+use Rattle.std.proofs.Common.{◌≡◌, ℕ, ◌≤◌, refl, inl, sym, ap, subst, ◌∙◌, arith, length, true, false, List, ℤ, pos}
 use Rattle.std.specs.Prelude.{unsigned_abs}
 use mir.Syntax.{w128}
 use mir.Val.{to_z, of_z}
@@ -20,7 +20,7 @@ use Rattle.dual_ascent.proofs.Results.{all_known}
 use Rattle.dual_ascent.proofs.Rounds.{ascended_is_risen, bound_is_risen}
 use Rattle.dual_ascent.specs.Ascent.{IsAscended}
 use Rattle.dual_ascent.specs.Kept.{Keeps}
-use Rattle.dual_ascent.specs.Work.{Work, IsWorkFor}
+use Rattle.dual_ascent.specs.Work.{IsWorkFor}
 use Rattle.dual_adjust.specs.Slackness.{tight_sites}
 use Rattle.dual_adjust.specs.Adjustment.{Gains}
 use Rattle.dual_adjust.specs.Present.{Present, IsStart, HasAscended}

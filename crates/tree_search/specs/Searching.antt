@@ -1,7 +1,6 @@
 -- What a search has in hand from box to box.
 use Rattle.std.specs.Prelude.{◌≡◌, refl}
 use Rattle.std.specs.Coded.{Coded, code_by, coded×}
-use Rattle.location_terms.specs.Instance.{Instance}
 use Rattle.dual_value.specs.Prepared.{Prepared}
 use Rattle.lane_order.specs.Order.{Order, IsOrderOf}
 use Rattle.dual_steps.specs.Sizes.{Sizes, sizes_of}

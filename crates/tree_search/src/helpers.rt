@@ -3,6 +3,7 @@ ghost use Rattle.std.specs.Prelude.{◌≡◌, IfOk, IfSome, length};
 ghost use Rattle.location_terms.specs.Plan.{IsFeasible};
 ghost use Rattle.lane_order.specs.Order.{IsOrderOf};
 ghost use Rattle.dual_steps.specs.Sizes.{Suits, sizes_of};
+ghost use Rattle.set_search.specs.Ready.{IsReady};
 ghost use Rattle.plan_search.specs.InBox.{IsPathOf};
 
 use crate::incumbent::Incumbent;
@@ -14,6 +15,7 @@ use instance_store::{Instance, NoMemory};
 use lane_order::LaneOrder;
 use plan_meaning::Plan;
 use plan_search::{LocalSearch, has_no_caps, improved_set, plan_around};
+use set_search::Ordered;
 use side_multipliers::LanePlace;
 use std::alloc::Global;
 use std::marker::Model;
@@ -146,6 +148,40 @@ impl<'a> Helpers<'a> {
             Some(prices) => {
                 prices.name_suppliers();
                 let plan = plan_around(alloc, boxed, &mut self.local, prices.suppliers())?;
+                Ok(plan)
+            }
+        }
+    }
+
+    /// Whether it is time to search sets of open sites for a plan.
+    pub(crate) fn is_time_for_sets(&self) -> bool {
+        match &self.prices {
+            None => false,
+            Some(prices) => prices.is_time_for_sets(),
+        }
+    }
+
+    /// A plan that is sought among sets of sites, from those that the best plan opens, or that the steps take where
+    /// none is known; and none where none is found that costs less. It fails only where memory runs out.
+    pub(crate) fn plan_of_sets(
+        &mut self,
+        at: &Ordered<'_>,
+        incumbent: &Incumbent<'_>,
+    ) -> Result<Option<Plan>, NoMemory>
+        requires ready { IsReady at.now self.old }
+        requires instance { at.now.inst.now ≡ incumbent.now.instance }
+        ensures feasible { IfOk result (λ plan. IfSome plan (IsFeasible incumbent.now.instance)) }
+        ensures same { self.new ≡ self.old }
+    {
+        match &mut self.prices {
+            None => Ok(None),
+            Some(prices) => {
+                flag_opened(incumbent, &mut self.flags);
+                if incumbent.cost().is_none() {
+                    self.flags.copy_from_slice(prices.progress().open());
+                }
+                let most = target_of(incumbent.cost(), prices.bound());
+                let plan = prices.plan_of_sets(at, &self.flags, most)?;
                 Ok(plan)
             }
         }

@@ -1,15 +1,25 @@
 //! Steps with prices of capacities, in boxes with free sites and in those without.
-ghost use Rattle.std.specs.Prelude.{◌≡◌, IfOk, length};
+ghost use Rattle.std.specs.Prelude.{◌≡◌, IfOk, IfSome, length};
+ghost use Rattle.location_terms.specs.Plan.{IsFeasible};
 ghost use Rattle.lane_order.specs.Order.{IsOrderOf};
 ghost use Rattle.dual_steps.specs.Sizes.{sizes_of};
+ghost use Rattle.set_search.specs.Ready.{IsReady};
 
 use dual_steps::Progress;
 use dual_value::{Duals, PreparedBox, SiteState};
 use instance_store::{Instance, NoMemory};
 use lane_order::LaneOrder;
+use plan_meaning::Plan;
+use set_search::{Ordered, SetSearch};
 use side_multipliers::{AT_ROOT, CapSteps, IN_NODE, LanePlace, Transport};
 use std::alloc::Global;
 use std::marker::Model;
+
+// In how many boxes steps are taken before sets of open sites are searched for a plan, and how many times
+// as many before the next search.
+const FIRST_SEARCH: u32 = 2000;
+
+const NEXT_SEARCH: u32 = 4;
 
 /// The steps of an instance some site of which has a capacity. In boxes without free sites the best prices
 /// are found without steps.
@@ -19,6 +29,10 @@ pub(crate) struct Prices {
     rooms: Transport,
     // Whether the box at work has no free site.
     is_settled: bool,
+    sets: SetSearch,
+    // How many boxes were entered, and before which of them sets are searched.
+    entered: u32,
+    next_search: u32,
 }
 
 impl Model for Prices {
@@ -44,6 +58,9 @@ impl Prices {
             caps,
             rooms,
             is_settled: false,
+            sets: SetSearch::new(alloc),
+            entered: 0,
+            next_search: FIRST_SEARCH,
         })
     }
 
@@ -53,6 +70,7 @@ impl Prices {
         requires sizes { self.old ≡ sizes_of boxed.now.instance }
         ensures { self.new ≡ self.old }
     {
+        self.entered = self.entered.saturating_add(1);
         self.is_settled = !has_free_site(boxed);
         if self.is_settled {
             self.rooms.enter(boxed, order);
@@ -105,6 +123,29 @@ impl Prices {
     /// millionths.
     pub(crate) fn shows(&self, target: f64) -> bool {
         self.is_settled && self.rooms.shows(target)
+    }
+
+    /// Whether it is time to search sets of open sites for a plan: after some boxes, and again after several
+    /// times as many.
+    pub(crate) fn is_time_for_sets(&self) -> bool {
+        self.entered >= self.next_search
+    }
+
+    /// A plan that costs less than `most` millionths, sought from the set of the flagged sites, by place, and none
+    /// where none is found. What the box at work had come to is lost. It fails only where memory runs out.
+    pub(crate) fn plan_of_sets(
+        &mut self,
+        at: &Ordered<'_>,
+        open: &[bool],
+        most: f64,
+    ) -> Result<Option<Plan>, NoMemory>
+        requires { IsReady at.now self.old }
+        ensures feasible { IfOk result (λ plan. IfSome plan (IsFeasible at.now.inst.now)) }
+        ensures same { self.new ≡ self.old }
+    {
+        self.next_search = self.next_search.saturating_mul(NEXT_SEARCH);
+        let plan = self.sets.plan(at, &mut self.rooms, open, most)?;
+        Ok(plan)
     }
 
     /// Names for each customer, by place, the site from which most of its demand comes in a box without free

@@ -23,6 +23,7 @@ pub(crate) fn price(search: &mut Search<'_>, boxed: &PreparedBox<'_>) -> Result<
     requires { IsAt boxed.now search.old }
     ensures { OnOk result (GoesOn boxed.now search.old search.new) }
 {
+    search.seek_sets(boxed)?;
     search.enter_prices(boxed);
     if boxed.path().steps() == 0 {
         price_root(search, boxed)?;

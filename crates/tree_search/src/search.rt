@@ -15,6 +15,7 @@ use dual_value::{Duals, PreparedBox, fits};
 use instance_store::{Instance, NoMemory};
 use lane_order::LaneOrder;
 use plan_meaning::Plan;
+use set_search::Ordered;
 use side_multipliers::LanePlace;
 use std::alloc::Global;
 use std::marker::Model;
@@ -159,6 +160,25 @@ impl<'a> Search<'a> {
     {
         let cost = self.incumbent.cost();
         self.helpers.step_prices(cost, steps);
+    }
+
+    /// Looks for a plan among sets of open sites, where it is time for that. It fails only where memory runs
+    /// out.
+    pub(crate) fn seek_sets(&mut self, boxed: &PreparedBox<'_>) -> Result<(), NoMemory>
+        requires { IsAt boxed.now self.old }
+        ensures { OnOk result (GoesOn boxed.now self.old self.new) }
+    {
+        if !self.helpers.is_time_for_sets() {
+            return Ok(());
+        }
+        let at = Ordered {
+            alloc: self.alloc,
+            inst: boxed.instance(),
+            order: self.order,
+        };
+        let plan = self.helpers.plan_of_sets(&at, &self.incumbent)?;
+        self.offer(plan);
+        Ok(())
     }
 
     /// The lane on which to split a box without free sites.

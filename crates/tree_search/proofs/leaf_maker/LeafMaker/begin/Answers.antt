@@ -1,4 +1,4 @@
-use Rattle.std.proofs.Common.{◌≡◌, ◌∙◌, refl, sym, ap, subst}
+use Rattle.std.proofs.Common.{◌≡◌, ◌∙◌, refl, ap, subst}
 use mir.Syntax.{w128}
 use mir.Val.{to_z, of_z}
 use Rattle.location_terms.specs.Bound.{Duals}

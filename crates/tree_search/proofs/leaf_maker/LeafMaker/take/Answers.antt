@@ -1,4 +1,4 @@
-use Rattle.std.proofs.Common.{◌≡◌, ◌∙◌, refl, sym, ap, subst, true, false}
+use Rattle.std.proofs.Common.{◌≡◌, ◌∙◌, sym, ap, subst, true, false}
 use Rattle.std.proofs.lemmas.Bool.{false≢true}
 use mir.Syntax.{w128}
 use mir.Val.{to_z, of_z}
