@@ -4,6 +4,7 @@ ghost use Rattle.std.specs.Prelude.{◌≡◌, length};
 use instance_store::{Instance, NoMemory};
 use location_terms::SiteStatus;
 use std::alloc::Global;
+use std::num::nearest_u64_to_f64;
 
 /// A site that closes, one that opens, or both, by their places.
 #[derive(Clone, Copy)]
@@ -123,4 +124,21 @@ pub(crate) fn open_count(open: &[bool]) -> usize {
         }
     }
     count
+}
+
+/// Whether the sites of a set hold what all customers demand, as far as floats show it.
+pub(crate) fn holds_all(inst: &Instance, open: &[bool]) -> bool {
+    let mut left = 0.0;
+    for site in 0..inst.sites().min(open.len()) {
+        if open[site] {
+            match inst.cap(site) {
+                None => return true,
+                Some(cap) => left += nearest_u64_to_f64(cap),
+            }
+        }
+    }
+    for cust in 0..inst.custs() {
+        left -= nearest_u64_to_f64(inst.demand(cust));
+    }
+    left >= 0.0
 }

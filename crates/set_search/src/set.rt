@@ -4,7 +4,7 @@ ghost use Rattle.lane_order.specs.Order.{IsOrderOf};
 ghost use Rattle.dual_steps.specs.Sizes.{sizes_of};
 ghost use Rattle.set_search.specs.Ready.{IsReady};
 
-use crate::change::{Change, NO_CHANGE, exchanges, single_changes};
+use crate::change::{Change, NO_CHANGE, exchanges, holds_all, single_changes};
 use crate::ordered::Ordered;
 use dual_value::{Path, PreparedBox};
 use instance_store::{Instance, NoMemory};
@@ -46,7 +46,7 @@ impl Set {
         let open = Vec::from_slice(at.alloc, open)?;
         let cost = set_cost(at, rooms, &open, most)?.unwrap_or(most);
         let lanes = at.inst.custs().saturating_mul(at.inst.sites());
-        let looks = MOST_LANES / lanes.max(1);
+        let looks = MOST_LANES / lanes;
         Ok(Set { open, cost, looks })
     }
 
@@ -149,12 +149,12 @@ impl Set {
         requires { IsReady at.now rooms.old }
         ensures { rooms.new ≡ rooms.old }
     {
-        if self.looks == 0 {
-            return Ok(None);
-        }
-        self.looks -= 1;
         change.make(&mut self.open);
-        let cost = set_cost(at, rooms, &self.open, self.cost)?;
+        let mut cost = None;
+        if self.looks > 0 && holds_all(at.inst, &self.open) {
+            self.looks -= 1;
+            cost = set_cost(at, rooms, &self.open, self.cost)?;
+        }
         change.undo(&mut self.open);
         Ok(cost)
     }
@@ -205,10 +205,5 @@ pub(crate) fn box_cost(
     ensures { rooms.new ≡ rooms.old }
 {
     rooms.enter(boxed, order);
-    rooms.solve(most);
-    if rooms.shows(most) {
-        None
-    } else {
-        Some(rooms.bound())
-    }
+    rooms.cost_below(most)
 }

@@ -4,7 +4,7 @@
 ghost use Rattle.std.specs.Prelude.{◌≡◌, length};
 
 use crate::room_lanes::{Guest, LaneUse, RoomLane, lane_count, lanes_of, site_of};
-use crate::rooms::{Move, NO_MOVE, Room, empty_rooms, level_at, load, price_at};
+use crate::rooms::{Move, NO_MOVE, Room, empty_rooms, fixed_cost, level_at, load, price_at};
 
 // How many lanes may be looked at, about, and how often flows may be shifted whatever the size.
 const MAX_LOOKS: usize = 40_000_000;
@@ -150,28 +150,70 @@ fn shift(
     }
 }
 
-/// Shifts flows until no room is overfull. No where that can't be: all the rooms to which a way leads from
-/// an overfull one are full.
+/// What shifting flows comes to.
+#[derive(Clone, Copy)]
+pub(crate) enum Shifted {
+    /// No room is overfull.
+    Balanced,
+    /// Some room stays overfull: all the rooms to which a way leads from it are full.
+    Stuck,
+    /// Balanced flows cost at least as much as they may.
+    TooDear,
+}
+
+/// Shifts flows until no room is overfull, as long as they may cost less than `most` millionths with the
+/// fixed costs.
 pub(crate) fn balance(
     guests: &[Guest],
     lanes: &[RoomLane],
+    most: f64,
     rooms: &mut [Room],
     flows: &mut [f64],
-) -> bool
+) -> Shifted
     ensures rooms { length rooms.new ≡ length rooms.old }
     ensures flows { length flows.new ≡ length flows.old }
 {
+    let mut cost = flow_cost(guests, lanes, flows) + fixed_cost(rooms);
     for _turn in 0..MAX_LOOKS / lane_count(guests).max(1) + LEAST_TURNS {
         if !begin_ways(rooms) {
-            return true;
+            return Shifted::Balanced;
         }
         find_ways(guests, lanes, flows, rooms);
-        match nearest_gap(rooms) {
-            None => return false,
-            Some(gap) => fill_gap(gap, lanes, rooms, flows),
+        let Some(gap) = nearest_gap(rooms) else {
+            return Shifted::Stuck;
+        };
+        // No later way is shorter.
+        let way = way_to(rooms, gap);
+        if most <= cost + way * excess_of_all(rooms) {
+            return Shifted::TooDear;
+        }
+        cost += way * fill_gap(gap, lanes, rooms, flows);
+    }
+    Shifted::Balanced
+}
+
+// What the flows cost.
+fn flow_cost(guests: &[Guest], lanes: &[RoomLane], flows: &[f64]) -> f64 {
+    let mut sum = 0.0;
+    for guest in guests {
+        for k in guest.start..guest.end.min(lanes.len()).min(flows.len()) {
+            if flows[k] > 0.0 {
+                sum += flows[k] * guest.ratio(lanes[k]);
+            }
         }
     }
-    true
+    sum
+}
+
+// How much more is loaded than rooms hold, over all overfull ones.
+fn excess_of_all(rooms: &[Room]) -> f64 {
+    let mut sum = 0.0;
+    for room in rooms {
+        if room.is_opened {
+            sum += room.excess().max(0.0);
+        }
+    }
+    sum
 }
 
 // Ways begin at overfull rooms. Whether there are any.
@@ -293,8 +335,8 @@ fn nearest_gap(rooms: &[Room]) -> Option<usize> {
     nearest
 }
 
-// Shifts as much as there is along the way to a room.
-fn fill_gap(gap: usize, lanes: &[RoomLane], rooms: &mut [Room], flows: &mut [f64])
+// Shifts as much as there is along the way to a room. The answer is how much.
+fn fill_gap(gap: usize, lanes: &[RoomLane], rooms: &mut [Room], flows: &mut [f64]) -> f64
     ensures rooms { length rooms.new ≡ length rooms.old }
     ensures flows { length flows.new ≡ length flows.old }
 {
@@ -302,12 +344,13 @@ fn fill_gap(gap: usize, lanes: &[RoomLane], rooms: &mut [Room], flows: &mut [f64
     let mut at = gap;
     for _turn in 0..rooms.len() {
         if at >= rooms.len() || rooms[at].last.from >= rooms.len() {
-            return;
+            return amount;
         }
         let last = rooms[at].last;
         make_move(at, last, amount, lanes, rooms, flows);
         at = last.from;
     }
+    amount
 }
 
 // The most that can be shifted along the way to a room.

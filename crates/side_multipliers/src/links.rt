@@ -51,6 +51,36 @@ pub(crate) fn next_link(
     Some(link.place)
 }
 
+/// The first lane that is left out and that a split takes away at once: no room is left for it beside the
+/// customers to which the box allows a single lane.
+pub(crate) fn first_unfit(
+    guests: &[Guest],
+    lanes: &[RoomLane],
+    rooms: &mut [Room],
+) -> Option<LanePlace>
+    ensures { length rooms.new ≡ length rooms.old }
+{
+    load_forced(guests, lanes, rooms);
+    for cust in 0..guests.len() {
+        let guest = guests[cust];
+        if guest.allowed() > 1 {
+            if let Some(site) = unfit_site(guest, lanes, rooms) {
+                return Some(LanePlace { site, cust });
+            }
+        }
+    }
+    None
+}
+
+fn unfit_site(guest: Guest, lanes: &[RoomLane], rooms: &[Room]) -> Option<usize> {
+    for lane in lanes_of(lanes, guest) {
+        if lane.lane_use == LaneUse::LeftOut && !fits_beside(rooms, lane.site(), guest.weight) {
+            return Some(lane.site());
+        }
+    }
+    None
+}
+
 /// By how much the levels that customers take are above the least of all their allowed lanes, in all.
 pub(crate) fn lack_of_all(guests: &[Guest], lanes: &[RoomLane], rooms: &[Room]) -> f64 {
     let mut sum = 0.0;

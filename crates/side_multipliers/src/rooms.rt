@@ -174,6 +174,17 @@ pub(crate) fn level_at(lane: RoomLane, weight: f64, rooms: &[Room]) -> f64 {
     lane.cost + weight * price_at(rooms, lane.site())
 }
 
+/// What the opened sites cost.
+pub(crate) fn fixed_cost(rooms: &[Room]) -> f64 {
+    let mut sum = 0.0;
+    for room in rooms {
+        if room.is_opened {
+            sum += room.fixed;
+        }
+    }
+    sum
+}
+
 /// What the opened sites cost, less what their capacities do at the prices.
 pub(crate) fn opened_cost(rooms: &[Room]) -> f64 {
     let mut sum = 0.0;

@@ -84,11 +84,24 @@ fn fills_rooms(alloc: Global, inst: &Instance) -> Result<bool, NoMemory> {
     rooms.round(1_000);
     let split = rooms.split(7505750000.0);
     Ok(
-        rooms.bound() > 7505050000.0
-            && rooms.bound() < 7505090000.0
+        is_cost(rooms.bound())
             && rooms.prices().first() == Some(&0)
-            && splits_second(split),
+            && splits_second(split)
+            && rooms.cost_below(7505000000.0).is_none()
+            && is_below(rooms.cost_below(7505750000.0)),
     )
+}
+
+// What both sites cost with the customers' lanes, of the second one's a third from the dear site.
+fn is_cost(bound: f64) -> bool {
+    bound > 7505050000.0 && bound < 7505090000.0
+}
+
+fn is_below(cost: Option<f64>) -> bool {
+    match cost {
+        None => false,
+        Some(cost) => is_cost(cost),
+    }
 }
 
 // Whether nothing is left in the box where the dear site is closed: the cheap one is too small for both.

@@ -4,8 +4,8 @@ ghost use Rattle.dual_steps.specs.Sizes.{sizes_of};
 ghost use Rattle.lane_order.specs.Order.{IsOrderOf};
 
 use crate::box_lanes::BoxLanes;
-use crate::flows::{balance, find_levels, find_prices, reseat, seat_all};
-use crate::links::{LanePlace, lack_of_all, next_link};
+use crate::flows::{Shifted, balance, find_levels, find_prices, reseat, seat_all};
+use crate::links::{LanePlace, first_unfit, lack_of_all, next_link};
 use crate::payments::{Demand, demands_of};
 use crate::refusing::leave_out_unfit;
 use crate::room_lanes::{
@@ -19,6 +19,9 @@ use instance_store::{Instance, NoMemory};
 use lane_order::LaneOrder;
 use std::alloc::Global;
 use std::marker::Model;
+
+// Which part of what plans cost is much to gain.
+const MUCH: f64 = 0.002;
 
 /// A box without free sites whose customers' demands may be split is a transportation problem: its solution
 /// has the best prices of the capacities, from which an ascent finds the best duals. Lanes for which no room
@@ -110,9 +113,33 @@ impl Transport {
     pub fn solve(&mut self, target: f64)
         ensures { self.new ≡ self.old }
     {
+        self.seat();
+        self.improve(target, f64::MAX);
+    }
+
+    /// What the box costs with split demands, in millionths, where that is less than `target` and a plan may be
+    /// left.
+    pub fn cost_below(&mut self, target: f64) -> Option<f64>
+        ensures { self.new ≡ self.old }
+    {
+        if !self.is_possible {
+            return None;
+        }
+        self.seat();
+        self.improve(target, target);
+        if self.shows(target) {
+            None
+        } else {
+            Some(self.bound)
+        }
+    }
+
+    // Lets each customer flow along its lane of the least level at the prices.
+    fn seat(&mut self)
+        ensures { self.new ≡ self.old }
+    {
         let _levels = find_levels(&mut self.guests, &self.lanes, &self.rooms);
         seat_all(&self.guests, &self.lanes, &mut self.rooms, &mut self.flows);
-        self.improve(target);
     }
 
     /// The bound at the prices, in millionths.
@@ -128,14 +155,21 @@ impl Transport {
 
     /// The lane to split on. Where no plan is left that costs less than `target` millionths, it is one that
     /// stands in the way of duals that show it; else that of which a trial promises most. None where no
-    /// customer's demand is split.
+    /// customer's demand is split. Where much is left to gain, lanes that are left out go first: many boxes
+    /// below would have to lose them one by one.
     pub fn split(&mut self, target: f64) -> Option<LanePlace>
         ensures { self.new ≡ self.old }
     {
         if self.shows(target) {
             return self.link(target);
         }
-        self.best_trial(target)
+        if target - self.bound < MUCH * target {
+            return self.best_trial(target);
+        }
+        match self.lost_lane() {
+            None => self.best_trial(target),
+            Some(place) => Some(place),
+        }
     }
 
     /// Rounds the prices to whole numbers, of which `scale` are a millionth.
@@ -165,12 +199,35 @@ impl Transport {
         &self.suppliers
     }
 
-    // Shifts flows to the least cost, and finds prices and the bound.
-    fn improve(&mut self, target: f64)
+    // Shifts flows to the least cost, and finds prices and the bound. Where they are shown to cost at least
+    // `most` millionths, that is the bound, and prices stay as they are.
+    fn improve(&mut self, target: f64, most: f64)
         ensures { self.new ≡ self.old }
     {
-        let is_balanced = balance(&self.guests, &self.lanes, &mut self.rooms, &mut self.flows);
-        let most = greatest_price(&self.guests, &self.lanes, target, is_balanced);
+        let shifted = balance(
+            &self.guests,
+            &self.lanes,
+            most,
+            &mut self.rooms,
+            &mut self.flows,
+        );
+        match shifted {
+            Shifted::Balanced => self.take_prices(0.0),
+            Shifted::TooDear => self.bound = most,
+            Shifted::Stuck => {
+                // At prices so great the bound shows that no plan costs less than the target: at least a
+                // millionth is too much.
+                self.take_prices(target.abs());
+                self.is_possible = false;
+            }
+        }
+    }
+
+    // Finds the prices at the flows, and the bound. What no way leads away from costs so much at least.
+    fn take_prices(&mut self, least: f64)
+        ensures { self.new ≡ self.old }
+    {
+        let most = greatest_price(&self.guests, &self.lanes, least);
         find_prices(
             &self.guests,
             &self.lanes,
@@ -180,9 +237,6 @@ impl Transport {
         );
         let levels = find_levels(&mut self.guests, &self.lanes, &self.rooms);
         self.bound = levels + opened_cost(&self.rooms);
-        if !is_balanced {
-            self.is_possible = false;
-        }
     }
 
     fn link(&mut self, target: f64) -> Option<LanePlace>
@@ -197,6 +251,14 @@ impl Transport {
             missing,
             self.is_possible,
         )
+    }
+
+    // A lane that is left out and that a split takes away at once.
+    fn lost_lane(&mut self) -> Option<LanePlace>
+        ensures { self.new ≡ self.old }
+    {
+        self.saved_rooms.copy_from_slice(&self.rooms);
+        first_unfit(&self.guests, &self.lanes, &mut self.saved_rooms)
     }
 
     // The lane of the trial that promises most.
@@ -250,7 +312,7 @@ impl Transport {
         let before = self.bound;
         set_aside(guest, place, is_decided, &mut self.lanes);
         reseat(guest, &self.lanes, &mut self.rooms, &mut self.flows);
-        self.improve(target);
+        self.improve(target, target);
         let gain = if self.is_possible {
             self.bound - before
         } else {
@@ -298,10 +360,9 @@ fn total(demands: &[Demand]) -> f64 {
     sum
 }
 
-// No price has to be greater where flows are balanced. Where they can't be, one so great shows that no plan
-// costs less than the target: at least a millionth is too much.
-fn greatest_price(guests: &[Guest], lanes: &[RoomLane], target: f64, is_balanced: bool) -> f64 {
-    let mut most = if is_balanced { 0.0 } else { target.abs() };
+// No price has to be greater where flows are balanced.
+fn greatest_price(guests: &[Guest], lanes: &[RoomLane], least: f64) -> f64 {
+    let mut most = least;
     for guest in guests {
         if guest.weight > 0.0 {
             most = most.max(dearest(*guest, lanes));
