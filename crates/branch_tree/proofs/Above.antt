@@ -4,43 +4,41 @@ use Rattle.std.specs.Prelude.{fold, slice_get, is_some}
 use Rattle.std.proofs.lemmas.List.{take_more}
 use Rattle.std.proofs.lemmas.List.Sums.{fold-append}
 use Rattle.location_terms.specs.declared.decision.Decision.{Decision}
-use Rattle.location_terms.specs.declared.decision.Decision.TheVariants.{Opened, Closed, Yes, No}
+use Rattle.location_terms.specs.declared.split.Split.{Split}
 use Rattle.location_terms.specs.Box.{Path}
+use Rattle.location_terms.specs.Split.{first_step, second_step}
 use Rattle.branch_tree.specs.declared.entry.Entry.{Entry}
-use Rattle.branch_tree.specs.declared.entry.Entry.TheVariants.{End, SiteSplit, LaneSplit}
-use Rattle.branch_tree.specs.Walk.{second_child, next, passed}
+use Rattle.branch_tree.specs.declared.entry.Entry.TheVariants.{End, Branch}
+use Rattle.branch_tree.specs.Walk.{next, passed}
 use Rattle.branch_tree.specs.Above.{chosen, step_below, done_before, settled}
-use Rattle.branch_tree.proofs.Ahead.{next_first, next_second, next_root}
+use Rattle.branch_tree.proofs.Ahead.{next_child, next_behind, next_root}
 
 pub settled_root : (n : ℕ) → settled n [] ≡ []
 settled_root zero = refl
 settled_root (suc n) = ap (settled n) next_root ∙ settled_root n
 
--- a split whose decisions are first and second, with both children or fewer done
-module _ (first second : Decision) (path : Path) (then : second_child first ≡ Some second) (last : second_child second ≡ None) where
-  split_none : (done : ℕ) → chosen first second done ≡ None → settled done (path ++ first ∷ []) ≡ settled (done - 1) path
-  split_none zero h = cc
-  split_none (suc zero) h = cc
-  split_none (suc (suc n)) h =
-      let less : suc (suc n) - 1 ≡ suc n = omega arith in
-      ap (λ p. settled n (next p)) (next_first first second path then)
-      ∙ ap (settled n) (next_second second path last)
-      ∙ ap (λ k. settled k path) (sym less)
+-- a split with both children done, or fewer
+split_none : (split : Split) (done : ℕ) (path : Path) → chosen (first_step split) (second_step split) done ≡ None → settled done (path ++ first_step split ∷ []) ≡ settled (done - 1) path
+split_none split zero path h = cc
+split_none split (suc zero) path h = cc
+split_none split (suc (suc n)) path h =
+    let less : suc (suc n) - 1 ≡ suc n = omega arith in
+    ap (λ p. settled n (next p)) (next_child split path)
+    ∙ ap (settled n) (next_behind split path)
+    ∙ ap (λ k. settled k path) (sym less)
 
-  split_some : (done : ℕ) (step : Decision) → chosen first second done ≡ Some step → settled done (path ++ first ∷ []) ≡ settled (done - 1) path ++ step ∷ []
-  split_some zero step h = let same : first ≡ step = cc in ap (λ d. path ++ d ∷ []) same
-  split_some (suc zero) step h = let same : second ≡ step = cc in next_first first second path then ∙ ap (λ d. path ++ d ∷ []) same
-  split_some (suc (suc n)) step h = cc
+split_some : (split : Split) (done : ℕ) (path : Path) (step : Decision) → chosen (first_step split) (second_step split) done ≡ Some step → settled done (path ++ first_step split ∷ []) ≡ settled (done - 1) path ++ step ∷ []
+split_some split zero path step h = let same : first_step split ≡ step = cc in ap (λ d. path ++ d ∷ []) same
+split_some split (suc zero) path step h = let same : second_step split ≡ step = cc in next_child split path ∙ ap (λ d. path ++ d ∷ []) same
+split_some split (suc (suc n)) path step h = cc
 
 up_none : (e : Entry) (done : ℕ) (path : Path) → step_below e done ≡ None → settled done (passed path e) ≡ settled (done_before e done) path
 up_none (End d) done path h = ap (λ k. settled k path) (sym (add-one done))
-up_none (SiteSplit s) done path h = split_none (Closed s) (Opened s) path refl refl done h
-up_none (LaneSplit s c) done path h = split_none (No s c) (Yes s c) path refl refl done h
+up_none (Branch split) done path h = split_none split done path h
 
 up_some : (e : Entry) (done : ℕ) (path : Path) (step : Decision) → step_below e done ≡ Some step → settled done (passed path e) ≡ settled (done_before e done) path ++ step ∷ []
 up_some (End d) done path step h = cc
-up_some (SiteSplit s) done path step h = split_some (Closed s) (Opened s) path refl refl done step h
-up_some (LaneSplit s c) done path step h = split_some (No s c) (Yes s c) path refl refl done step h
+up_some (Branch split) done path step h = split_some split done path step h
 
 -- the path to the node at a place
 abbrev pub reached : List Entry → ℕ → Path
@@ -85,8 +83,7 @@ module _ (n : List Entry) (p i : ℕ) (e : Entry) (here : e ≡ get_or n i e) (b
 
 pub done_most : (e : Entry) (done : ℕ) → done_before e done ≤ done + 1
 done_most (End d) done = omega arith
-done_most (SiteSplit s) done = omega arith
-done_most (LaneSplit s c) done = omega arith
+done_most (Branch split) done = omega arith
 
 pub something : (o : Option Decision) → is_some o ≡ true → (d : Decision) × (Some d ≡ o)
 something None h = cc

@@ -1,15 +1,16 @@
 -- A walk in preorder comes to the leaves of the tree.
-use Rattle.std.proofs.Common.{◌≡◌, ℕ, ◌+◌, suc, ◌<◌, refl, sym, ap, ◌∙◌, add-one, List, [], ◌∷◌, ◌++◌, length, get_or, drop, Some, None}
+use Rattle.std.proofs.Common.{◌≡◌, ℕ, refl, sym, ap, ◌∙◌, List, [], ◌∷◌, ◌++◌, Some, None}
 use Rattle.std.specs.Prelude.{unwrap_or}
 use Rattle.std.proofs.lemmas.List.{append_assoc, append-nil}
-use Rattle.std.proofs.Math.Seq.{drop-cons}
 use Rattle.location_terms.specs.declared.decision.Decision.{Decision}
-use Rattle.location_terms.specs.declared.decision.Decision.TheVariants.{Opened, Closed, Yes, No}
+use Rattle.location_terms.specs.declared.split.Split.{Split}
+use Rattle.location_terms.specs.declared.split.Split.TheVariants.{Site, Lane}
 use Rattle.location_terms.specs.Box.{Path}
-use Rattle.location_terms.specs.Tree.{Node, Leaf, OnSite, OnLane, leaves_below, leaves_of}
+use Rattle.location_terms.specs.Split.{first_step, second_step}
+use Rattle.location_terms.specs.Tree.{Node, Leaf, Fork, leaves_below, leaves_of}
 use Rattle.branch_tree.specs.declared.entry.Entry.{Entry}
 use Rattle.branch_tree.specs.Preorder.{flat, tree_of, IsStored}
-use Rattle.branch_tree.specs.Walk.{second_child, one_step, turned_within, turned, next, leaf_at, passed, leaves_ahead}
+use Rattle.branch_tree.specs.Walk.{second_child, one_step, turned_within, turned, next, leaves_ahead}
 use Rattle.branch_tree.proofs.Stored.{seen}
 
 pub turned_first : (d e : Decision) (path : Path) → second_child d ≡ Some e → turned (path ++ d ∷ []) ≡ Some (path ++ e ∷ [])
@@ -46,31 +47,32 @@ pub next_root : next [] ≡ []
 unfolding next turned
 next_root = refl
 
--- the two children of a split, whose decisions are first and second
-children_ahead : (first second : Decision) (path : Path) (a b : Node) (es : List Entry) → second_child first ≡ Some second → second_child second ≡ None
-    → ((p : Path) (xs : List Entry) → leaves_ahead p (flat a ++ xs) ≡ leaves_below p a ++ leaves_ahead (next p) xs)
-    → ((p : Path) (xs : List Entry) → leaves_ahead p (flat b ++ xs) ≡ leaves_below p b ++ leaves_ahead (next p) xs)
-    → leaves_ahead (path ++ first ∷ []) ((flat a ++ flat b) ++ es) ≡ (leaves_below (path ++ first ∷ []) a ++ leaves_below (path ++ second ∷ []) b) ++ leaves_ahead (next path) es
-children_ahead first second path a b es h k on_a on_b =
-    ap (leaves_ahead (path ++ first ∷ [])) (append_assoc (flat a) (flat b) es)
-    ∙ on_a (path ++ first ∷ []) (flat b ++ es)
-    ∙ ap (λ xs. leaves_below (path ++ first ∷ []) a ++ xs) (ap (λ p. leaves_ahead p (flat b ++ es)) (next_first first second path h) ∙ on_b (path ++ second ∷ []) es ∙ ap (λ p. leaves_below (path ++ second ∷ []) b ++ leaves_ahead p es) (next_second second path k))
-    ∙ sym (append_assoc (leaves_below (path ++ first ∷ []) a) (leaves_below (path ++ second ∷ []) b) (leaves_ahead (next path) es))
+pub then_second : (split : Split) → second_child (first_step split) ≡ Some (second_step split)
+then_second (Site s) = refl
+then_second (Lane s c) = refl
+
+pub then_none : (split : Split) → second_child (second_step split) ≡ None
+then_none (Site s) = refl
+then_none (Lane s c) = refl
+
+-- from the first child of a split to its second
+pub next_child : (split : Split) (path : Path) → next (path ++ first_step split ∷ []) ≡ path ++ second_step split ∷ []
+next_child split path = next_first (first_step split) (second_step split) path (then_second split)
+
+-- and on behind the split
+pub next_behind : (split : Split) (path : Path) → next (path ++ second_step split ∷ []) ≡ next path
+next_behind split path = next_second (second_step split) path (then_none split)
 
 pub ahead-flat : (t : Node) (path : Path) (es : List Entry) → leaves_ahead path (flat t ++ es) ≡ leaves_below path t ++ leaves_ahead (next path) es
 ahead-flat (Leaf d) path es = refl
-ahead-flat (OnSite s a b) path es = children_ahead (Closed s) (Opened s) path a b es refl refl (ahead-flat a) (ahead-flat b)
-ahead-flat (OnLane s c a b) path es = children_ahead (No s c) (Yes s c) path a b es refl refl (ahead-flat a) (ahead-flat b)
+ahead-flat (Fork split a b) path es =
+    ap (leaves_ahead (path ++ first_step split ∷ [])) (append_assoc (flat a) (flat b) es)
+    ∙ ahead-flat a (path ++ first_step split ∷ []) (flat b ++ es)
+    ∙ ap (λ xs. leaves_below (path ++ first_step split ∷ []) a ++ xs) (ap (λ p. leaves_ahead p (flat b ++ es)) (next_child split path) ∙ ahead-flat b (path ++ second_step split ∷ []) es ∙ ap (λ p. leaves_below (path ++ second_step split ∷ []) b ++ leaves_ahead p es) (next_behind split path))
+    ∙ sym (append_assoc (leaves_below (path ++ first_step split ∷ []) a) (leaves_below (path ++ second_step split ∷ []) b) (leaves_ahead (next path) es))
 
 pub ahead_from_root : (t : Node) → leaves_ahead [] (flat t) ≡ leaves_below [] t
 ahead_from_root t = ap (leaves_ahead []) (sym (append-nil (flat t))) ∙ ahead-flat t [] [] ∙ append-nil (leaves_below [] t)
 
 pub leaves_stored : {S C : List ℕ} {n : List Entry} → IsStored S C n → leaves_ahead [] n ≡ leaves_of (seen S C n)
 leaves_stored {S} {C} {n} stored = ap (leaves_ahead []) stored.whole ∙ ahead_from_root (tree_of n)
-
--- the walk at a place of the list
-pub ahead_at : (path : Path) (n : List Entry) (i : ℕ) (e : Entry) → i < length n → e ≡ get_or n i e → leaves_ahead path (drop i n) ≡ leaf_at path e ++ leaves_ahead (passed path e) (drop (i + 1) n)
-ahead_at path n i e within here =
-    ap (leaves_ahead path) (drop-cons n i e within)
-    ∙ ap (λ x. leaf_at path x ++ leaves_ahead (passed path x) (drop (suc i) n)) (sym here)
-    ∙ ap (λ k. leaf_at path e ++ leaves_ahead (passed path e) (drop k n)) (sym (add-one i))

@@ -3,26 +3,24 @@ use Rattle.std.proofs.Common.{◌≡◌, ℕ, ◌+◌, ◌-◌, ◌<◌, ◌≤�
 use Rattle.std.specs.Prelude.{All, count_by, slice_get, fold}
 use Rattle.std.proofs.lemmas.List.{append_assoc, append-nil, take-append-le, take_all, length-map}
 use Rattle.std.proofs.lemmas.List.Elements.{All-append, All-same, All-cons, All-nil}
-use Rattle.location_terms.specs.Instance.{Instance, site_ids, customer_ids}
-use Rattle.location_terms.specs.declared.decision.Decision.TheVariants.{Opened, Closed, Yes, No}
+use Rattle.location_terms.specs.declared.split.Split.{Split}
 use Rattle.location_terms.specs.Box.{Path}
+use Rattle.location_terms.specs.Split.{second_step, IsSplitAmong}
 use Rattle.location_terms.specs.Bound.{Duals}
-use Rattle.location_terms.specs.Tree.{Node, Leaf, HasLists, leaves_below, nodes_of}
+use Rattle.location_terms.specs.Tree.{Node, Leaf, Fork, HasLists, leaves_below, nodes_of}
 use Rattle.branch_tree.specs.declared.entry.Entry.{Entry}
-use Rattle.branch_tree.specs.declared.entry.Entry.TheVariants.{End}
-use Rattle.branch_tree.specs.declared.split.Split.{Split}
-use Rattle.branch_tree.specs.declared.split.Split.TheVariants.{Site, Lane}
+use Rattle.branch_tree.specs.declared.entry.Entry.TheVariants.{End, Branch}
 use Rattle.branch_tree.specs.declared.open_split.OpenSplit.{OpenSplit}
 use Rattle.branch_tree.specs.Preorder.{flat, tree_of, tree_of-flat, tree_from, IsSound}
 use Rattle.branch_tree.specs.Leaf.{is_end, replaced}
 use Rattle.branch_tree.specs.Walk.{passed, leaves_ahead}
-use Rattle.branch_tree.specs.Growing.{Growing, entry_of, second_step, split_node, leaf_at_work, worked, split_in_two, growing_from}
+use Rattle.branch_tree.specs.Growing.{Growing, leaf_at_work, worked, split_in_two}
 use Rattle.branch_tree.specs.OpenSplits.{ends_of, entries_of, step_of, entries_above, steps_above, nodes_kept, base_of, IsKept}
 use Rattle.branch_tree.proofs.Flat.{all_parts, length-flat}
-use Rattle.branch_tree.proofs.Ahead.{ahead-flat, next_first}
-use Rattle.branch_tree.proofs.Found.{counted_end, leaf_found}
+use Rattle.branch_tree.proofs.Ahead.{ahead-flat, next_child}
+use Rattle.branch_tree.proofs.Found.{counted_end, counted_branch, leaf_found}
 use Rattle.branch_tree.proofs.Spliced.{put, put_right, before, get_right, counted-append, flat_replaced}
-use Rattle.branch_tree.proofs.OpenSplits.{open_of, entries_are, steps_are, split_counted}
+use Rattle.branch_tree.proofs.OpenSplits.{open_of, entries_are, steps_are}
 
 -- what the fields of a growth stand for
 abbrev pub grown_seen : List ℕ → List ℕ → Path → List OpenSplit → Option Duals → List Entry → Growing
@@ -44,10 +42,8 @@ base_is path base above leads =
 
 -- the path that a walk over the open splits comes to
 split_passed : (base : Path) (s : Split) (first : Option Duals) (es : List Entry) → fold passed base (entries_of (open_of s first) ++ es) ≡ fold passed (base ++ step_of (open_of s first) ∷ []) es
-split_passed base (Site s) None es = refl
-split_passed base (Lane s c) None es = refl
-split_passed base (Site s) (Some d) es = ap (λ p. fold passed p es) (next_first (Closed s) (Opened s) base refl)
-split_passed base (Lane s c) (Some d) es = ap (λ p. fold passed p es) (next_first (No s c) (Yes s c) base refl)
+split_passed base s None es = refl
+split_passed base s (Some d) es = ap (λ p. fold passed p es) (next_child s base)
 
 walked_above : (base : Path) (above : List OpenSplit) → fold passed base (entries_above above) ≡ base ++ steps_above above
 walked_above base [] = sym (append-nil base)
@@ -64,7 +60,7 @@ module _ (front rest : List Entry) (d : Duals) where
   here_found = get_right front (End d ∷ rest) (length front) 0 (omega arith)
 
   -- another tree in the place of one leaf
-  put_flat : (t part : Node) → front ++ End d ∷ rest ≡ flat t → front ++ (flat part ++ rest) ≡ flat (replaced t (count_by is_end front) part)
+  pub put_flat : (t part : Node) → front ++ End d ∷ rest ≡ flat t → front ++ (flat part ++ rest) ≡ flat (replaced t (count_by is_end front) part)
   put_flat t part whole =
       let here : slice_get (flat t) (length front) ≡ Some (End d) = ap (λ es. slice_get es (length front)) (sym whole) ∙ here_found in
       let counted : before (flat t) (length front) ≡ count_by is_end front = ap (λ es. before es (length front)) (sym whole) ∙ ap (count_by is_end) (take_front front (End d ∷ rest)) in
@@ -83,7 +79,7 @@ leads_from : (path base : Path) (above : List OpenSplit) → path ≡ base ++ st
 leads_from path base above leads = leads ∙ ap (λ b. b ++ steps_above above) (sym (base_is path base above leads))
 
 -- nodes that are those of a tree are those of the tree that they give
-whole_from : (nodes : List Entry) (t : Node) → nodes ≡ flat t → nodes ≡ flat (tree_of nodes)
+pub whole_from : (nodes : List Entry) (t : Node) → nodes ≡ flat t → nodes ≡ flat (tree_of nodes)
 whole_from nodes t is = is ∙ ap flat (sym (ap tree_of is ∙ tree_of-flat t))
 
 module _ {S C : List ℕ} {path : Path} {above : List OpenSplit} {done : List Entry} {room n : ℕ} (d : Duals) (kept : IsKept S C path above (Some d) done room n) where
@@ -125,7 +121,7 @@ module _ {S C : List ℕ} {path : Path} {above : List OpenSplit} {done : List En
         }
 
 -- one leaf
-module _ (I : Instance) (S C : List ℕ) (path : Path) (above : List OpenSplit) (d : Duals) (done : List Entry) (none_above : above ≡ []) (none_done : done ≡ []) where
+module _ (S C : List ℕ) (path : Path) (above : List OpenSplit) (d : Duals) (done : List Entry) (none_above : above ≡ []) (none_done : done ≡ []) where
   one_node : nodes_kept above (Some d) done ≡ End d ∷ []
   one_node = ap (λ os. nodes_kept os (Some d) done) none_above ∙ ap (λ es. nodes_kept [] (Some d) es) none_done
 
@@ -143,20 +139,18 @@ module _ (I : Instance) (S C : List ℕ) (path : Path) (above : List OpenSplit) 
     counted = sym (ap length one_node);
   }
 
-  pub begun_seen : S ≡ site_ids I → C ≡ customer_ids I → grown_seen S C path above (Some d) done ≡ growing_from I path d
-  begun_seen sites customers =
-      same_growing S C _ (Leaf d) _ path _ 1 (ap tree_of one_node ∙ tree_of-flat (Leaf d)) (base_is path path above leads_down) (ap (λ os. count_by is_end (entries_above os ++ End d ∷ [])) none_above ∙ counted_end d [])
-      ∙ ap (λ s. let g : Growing = record { tree = record { sites = s; customers = C; root = Leaf d }; base = path; left = 1 } in g) sites
-      ∙ ap (λ c. let g : Growing = record { tree = record { sites = site_ids I; customers = c; root = Leaf d }; base = path; left = 1 } in g) customers
-
-flat_split : (s : Split) (first second : Duals) → flat (split_node s (Leaf first) (Leaf second)) ≡ entry_of s ∷ End first ∷ End second ∷ []
-flat_split (Site s) first second = refl
-flat_split (Lane s c) first second = refl
+  pub begun_seen : grown_seen S C path above (Some d) done ≡ (let g : Growing = record { tree = record { sites = S; customers = C; root = Leaf d }; base = path; left = 1 } in g)
+  begun_seen = same_growing S C _ (Leaf d) _ path _ 1 (ap tree_of one_node ∙ tree_of-flat (Leaf d)) (base_is path path above leads_down) (ap (λ os. count_by is_end (entries_above os ++ End d ∷ [])) none_above ∙ counted_end d [])
 
 -- while a leaf is left, one is at work
 work_left : (above : List OpenSplit) (work : Option Duals) → (work ≡ None → above ≡ []) → 0 < count_by is_end (entries_above above ++ ends_of work) → (d : Duals) × (work ≡ Some d)
 work_left above None at_end left = absurd (let none : count_by is_end (entries_above above ++ []) ≡ 0 = ap (λ os. count_by is_end (entries_above os ++ [])) (at_end refl) in omega arith)
 work_left above (Some d) at_end left = (d, refl)
+
+-- and where none is left, none is
+nothing_left : (above : List OpenSplit) (work : Option Duals) → count_by is_end (entries_above above ++ ends_of work) ≡ 0 → work ≡ None
+nothing_left above None none = refl
+nothing_left above (Some d) none = absurd (omega (arith, count_work above d))
 
 module _ {S C : List ℕ} {path : Path} {above : List OpenSplit} {work : Option Duals} {done : List Entry} {room n : ℕ} (kept : IsKept S C path above work done room n) (g : Growing) (view_is : grown_seen S C path above work done ≡ g) where
   pub kept_nodes : n ≡ nodes_of g.tree
@@ -193,15 +187,13 @@ module _ {S C : List ℕ} {path : Path} {above : List OpenSplit} {work : Option 
 
     -- split in two
     module _ (s : Split) (first second : Duals) (down : Path) (more : List OpenSplit) (down_is : down ≡ path ++ second_step s ∷ []) (more_is : more ≡ above ++ open_of s (Some first) ∷ []) where
-      part : Node
-      part = split_node s (Leaf first) (Leaf second)
+      abbrev part : Node
+      part = Fork s (Leaf first) (Leaf second)
 
       split_nodes : nodes_kept more (Some second) done ≡ entries_above above ++ (flat part ++ reverse done)
-      unfolding part
       split_nodes =
           ap (λ es. es ++ (End second ∷ reverse done)) (entries_are more above s (Some first) more_is)
-          ∙ append_assoc (entries_above above) (entry_of s ∷ End first ∷ []) (End second ∷ reverse done)
-          ∙ ap (λ es. entries_above above ++ (es ++ reverse done)) (sym (flat_split s first second))
+          ∙ append_assoc (entries_above above) (Branch s ∷ End first ∷ []) (End second ∷ reverse done)
 
       split_leads : down ≡ base_of path above ++ steps_above more
       split_leads =
@@ -209,20 +201,31 @@ module _ {S C : List ℕ} {path : Path} {above : List OpenSplit} {work : Option 
           ∙ append_assoc (base_of path above) (steps_above above) (second_step s ∷ [])
           ∙ ap (λ p. base_of path above ++ p) (sym (steps_are more above s (Some first) more_is))
 
-      pub split_kept : (room' : ℕ) (done' : List Entry) → done' ≡ done → IsSound g.tree.sites g.tree.customers (entry_of s) → HasLists (length g.tree.sites) (length g.tree.customers) first → HasLists (length g.tree.sites) (length g.tree.customers) second → nodes_of g.tree + 2 < 2 ^ 32 → n + 2 ≤ room' → IsKept S C down more (Some second) done' room' (n + 2)
-      unfolding part
+      pub split_kept : (room' : ℕ) (done' : List Entry) → done' ≡ done → IsSplitAmong g.tree.sites g.tree.customers s → HasLists (length g.tree.sites) (length g.tree.customers) first → HasLists (length g.tree.sites) (length g.tree.customers) second → nodes_of g.tree + 2 < 2 ^ 32 → n + 2 ≤ room' → IsKept S C down more (Some second) done' room' (n + 2)
       split_kept room' done' same split_sound first_sound second_sound few fits =
-          let sound : All (IsSound S C) (entry_of s ∷ End first ∷ End second ∷ []) = All-cons (IsSound S C) (entry_of s) (End first ∷ End second ∷ []) (sound_here (entry_of s) split_sound)
+          let sound : All (IsSound S C) (Branch s ∷ End first ∷ End second ∷ []) = All-cons (IsSound S C) (Branch s) (End first ∷ End second ∷ []) (sound_here (Branch s) split_sound)
           (All-cons (IsSound S C) (End first) (End second ∷ []) (sound_here (End first) first_sound) (All-cons (IsSound S C) (End second) [] (sound_here (End second) second_sound) (All-nil (IsSound S C)))) in
           subst (λ es. IsKept S C down more (Some second) es room' (n + 2)) (sym same)
           (worked_kept worked_on.0 kept_on part down more second split_nodes split_leads room' (n + 2)
-          (subst (All (IsSound S C)) (sym (flat_split s first second)) sound)
-          (omega (arith, kept_nodes)) (omega (arith, ap length (flat_split s first second))) fits)
+          sound (omega (arith, kept_nodes)) (omega arith) fits)
 
       pub split_seen : (done' : List Entry) → done' ≡ done → grown_seen S C down more (Some second) done' ≡ split_in_two g s first second
-      unfolding part
       split_seen done' same =
           ap (grown_seen S C down more (Some second)) same
           ∙ worked_seen worked_on.0 kept_on part down more second split_nodes split_leads (count_by is_end (entries_above above ++ ends_of (Some worked_on.0)) + 1)
-          (omega (arith, count_work more second, count_work above worked_on.0, ap (count_by is_end) (entries_are more above s (Some first) more_is), counted-append (entries_above above) (entry_of s ∷ End first ∷ []), split_counted s (End first ∷ []), counted_end first []))
+          (omega (arith, count_work more second, count_work above worked_on.0, ap (count_by is_end) (entries_are more above s (Some first) more_is), counted-append (entries_above above) (Branch s ∷ End first ∷ []), counted_branch s (End first ∷ []), counted_end first []))
           ∙ ap (λ x. split_in_two x s first second) seen_on
+
+  -- once every leaf is done, what is done is all
+  module _ (none : g.left ≡ 0) where
+    no_work : work ≡ None
+    no_work = nothing_left above work (omega (arith, none, ap (λ x. x.left) view_is))
+
+    all_done : nodes_kept above work done ≡ reverse done
+    all_done = ap (λ os. nodes_kept os work done) (kept.at_end no_work) ∙ ap (λ w. ends_of w ++ reverse done) no_work
+
+    pub done_nodes : reverse done ≡ flat g.tree.root
+    done_nodes = sym all_done ∙ kept.whole ∙ ap (λ x. flat x.tree.root) view_is
+
+    pub done_sound : All (IsSound g.tree.sites g.tree.customers) (reverse done)
+    done_sound = subst (λ x. All (IsSound x.tree.sites x.tree.customers) (reverse done)) view_is (subst (All (IsSound S C)) all_done kept.sound)

@@ -1,7 +1,7 @@
 pub mod Flat
 pub mod Stored
 pub mod Ahead
-pub mod Loops
+pub mod Judged
 pub mod Found
 pub mod Spliced
 pub mod Above
@@ -10,3 +10,5 @@ pub mod OpenSplits
 pub mod Growing
 pub mod Built
 pub mod LowEnd
+pub mod Renewing
+pub mod Coursing

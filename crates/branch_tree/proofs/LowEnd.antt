@@ -12,7 +12,7 @@ use Rattle.location_terms.specs.Bound.{Duals, bound_of}
 use Rattle.location_terms.specs.Fit.{DualsFit, BoundCloses, Closes}
 use Rattle.location_terms.specs.Tree.{Tree, leaves_of, AllClose, low_end, low_of}
 use Rattle.branch_tree.specs.Walk.{lowered, lowered_all}
-use Rattle.branch_tree.proofs.Loops.{lowered_is}
+use Rattle.branch_tree.proofs.Judged.{lowered_is}
 
 -- a number within the ceiling of b / q, less one, is within b / q
 below_ceiling : (b q t : ℕ) → 1 ≤ q → suc t ≤ (b + (q - 1)) / q → q * t < b

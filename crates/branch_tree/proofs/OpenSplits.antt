@@ -1,27 +1,23 @@
 -- One of the splits above the leaf at work comes or goes.
-use Rattle.std.proofs.Common.{◌≡◌, ◌<◌, refl, sym, ap, ◌∙◌, arith, List, [], ◌∷◌, ◌++◌, length, length-append, reverse, Option, Some, None}
+use Rattle.std.proofs.Common.{◌≡◌, ◌<◌, sym, ap, ◌∙◌, arith, List, [], ◌∷◌, ◌++◌, length, length-append, reverse, Option, Some, None}
 use Rattle.std.specs.Prelude.{count_by}
 use Rattle.std.proofs.lemmas.Grind.{flat_map-append}
 use Rattle.std.proofs.lemmas.List.{append_assoc, append-nil, map-append, reverse-append, length-reverse, same_from_push}
 use Rattle.location_terms.specs.declared.decision.Decision.{Decision}
+use Rattle.location_terms.specs.declared.split.Split.{Split}
 use Rattle.location_terms.specs.Box.{Path}
+use Rattle.location_terms.specs.Split.{first_step}
 use Rattle.location_terms.specs.Bound.{Duals}
 use Rattle.branch_tree.specs.declared.entry.Entry.{Entry}
-use Rattle.branch_tree.specs.declared.entry.Entry.TheVariants.{End}
-use Rattle.branch_tree.specs.declared.split.Split.{Split}
-use Rattle.branch_tree.specs.declared.split.Split.TheVariants.{Site, Lane}
+use Rattle.branch_tree.specs.declared.entry.Entry.TheVariants.{End, Branch}
 use Rattle.branch_tree.specs.declared.open_split.OpenSplit.{OpenSplit}
 use Rattle.branch_tree.specs.Leaf.{is_end}
-use Rattle.branch_tree.specs.Growing.{entry_of, first_step}
 use Rattle.branch_tree.specs.OpenSplits.{ends_of, entries_of, step_of, entries_above, steps_above, nodes_kept}
+use Rattle.branch_tree.proofs.Found.{counted_branch}
 use Rattle.branch_tree.proofs.Spliced.{counted-append}
 
 abbrev pub open_of : Split → Option Duals → OpenSplit
 open_of s first = record { split = s; first = first }
-
-pub split_counted : (s : Split) (es : List Entry) → count_by is_end (entry_of s ∷ es) ≡ count_by is_end es
-split_counted (Site s) es = refl
-split_counted (Lane s c) es = refl
 
 module _ (above rest : List OpenSplit) (s : Split) (first : Option Duals) (is : above ≡ rest ++ open_of s first ∷ []) where
   pub entries_are : entries_above above ≡ entries_above rest ++ entries_of (open_of s first)
@@ -36,17 +32,17 @@ module _ (above rest : List OpenSplit) (s : Split) (first : Option Duals) (is : 
 
   -- all its children are done
   module _ (none : first ≡ None) where
-    closed_entries : entries_above above ≡ entries_above rest ++ entry_of s ∷ []
-    closed_entries = entries_are ∙ ap (λ f. entries_above rest ++ entry_of s ∷ ends_of f) none
+    closed_entries : entries_above above ≡ entries_above rest ++ Branch s ∷ []
+    closed_entries = entries_are ∙ ap (λ f. entries_above rest ++ Branch s ∷ ends_of f) none
 
-    pub closed_nodes : (done : List Entry) → nodes_kept rest None (done ++ entry_of s ∷ []) ≡ nodes_kept above None done
+    pub closed_nodes : (done : List Entry) → nodes_kept rest None (done ++ Branch s ∷ []) ≡ nodes_kept above None done
     closed_nodes done =
-        ap (λ es. entries_above rest ++ es) (reverse-append done (entry_of s ∷ []))
-        ∙ sym (append_assoc (entries_above rest) (entry_of s ∷ []) (reverse done))
+        ap (λ es. entries_above rest ++ es) (reverse-append done (Branch s ∷ []))
+        ∙ sym (append_assoc (entries_above rest) (Branch s ∷ []) (reverse done))
         ∙ sym (ap (λ es. es ++ reverse done) closed_entries)
 
     pub closed_left : count_by is_end (entries_above rest) ≡ count_by is_end (entries_above above)
-    closed_left = omega (arith, counted-append (entries_above rest) (entry_of s ∷ []), split_counted s [], ap (count_by is_end) closed_entries)
+    closed_left = omega (arith, counted-append (entries_above rest) (Branch s ∷ []), counted_branch s [], ap (count_by is_end) closed_entries)
 
     pub closed_path : (base path up : Path) (last : Decision) → path ≡ base ++ steps_above above → path ≡ up ++ last ∷ [] → up ≡ base ++ steps_above rest
     closed_path base path up last leads popped =
@@ -56,8 +52,8 @@ module _ (above rest : List OpenSplit) (s : Split) (first : Option Duals) (is : 
   module _ (d : Duals) (waits : first ≡ Some d) where
     turned_entries : entries_above above ≡ entries_above (rest ++ open_of s None ∷ []) ++ ends_of (Some d)
     turned_entries =
-        entries_are ∙ ap (λ f. entries_above rest ++ entry_of s ∷ ends_of f) waits
-        ∙ sym (append_assoc (entries_above rest) (entry_of s ∷ []) (End d ∷ []))
+        entries_are ∙ ap (λ f. entries_above rest ++ Branch s ∷ ends_of f) waits
+        ∙ sym (append_assoc (entries_above rest) (Branch s ∷ []) (End d ∷ []))
         ∙ sym (ap (λ es. es ++ End d ∷ []) (flat_map-append entries_of rest (open_of s None ∷ [])))
 
     pub turned_nodes : (done : List Entry) → nodes_kept (rest ++ open_of s None ∷ []) (Some d) done ≡ nodes_kept above None done

@@ -1,20 +1,21 @@
 -- Another tree in the place of a leaf.
 use Rattle.std.proofs.Common.{◌≡◌, ℕ, ◌+◌, ◌-◌, ◌<◌, ◌≤◌, ◌^◌, zero, suc, refl, sym, ap, subst, ◌∙◌, inl, inr, arith, add-one, true, cond, List, [], ◌∷◌, ◌++◌, length, length-append, get_or, take, drop, Some}
-use Rattle.std.specs.Prelude.{All, count_by, slice_get, nat_lt}
+use Rattle.std.specs.Prelude.{All, count_by, slice_get}
 use Rattle.std.specs.List.{splice}
 use Rattle.std.proofs.lemmas.Bool.{cases_lt, lt-ltb, le-ltb}
 use Rattle.std.proofs.lemmas.Option.{slice_get-get_or}
 use Rattle.std.proofs.lemmas.List.{append_assoc, append-nil, take-append-le}
 use Rattle.std.proofs.lemmas.List.Elements.{All-append, All-take, All-drop, All-same}
 use Rattle.location_terms.specs.Bound.{Duals}
-use Rattle.location_terms.specs.Tree.{Node, Leaf, OnSite, OnLane, Tree, nodes_of}
+use Rattle.location_terms.specs.declared.split.Split.{Split}
+use Rattle.location_terms.specs.Tree.{Node, Leaf, Fork, Tree, nodes_of}
 use Rattle.branch_tree.specs.declared.entry.Entry.{Entry}
-use Rattle.branch_tree.specs.declared.entry.Entry.TheVariants.{End, SiteSplit, LaneSplit}
-use Rattle.branch_tree.specs.Preorder.{flat, tree_of, tree_of-flat, IsSound, IsStored}
+use Rattle.branch_tree.specs.declared.entry.Entry.TheVariants.{End, Branch}
+use Rattle.branch_tree.specs.Preorder.{flat, no_duals, tree_of, tree_of-flat, IsSound, IsStored}
 use Rattle.branch_tree.specs.Leaf.{is_end, leaf_total, replaced, replaced_in}
 use Rattle.branch_tree.proofs.Stored.{seen, stored_size}
 use Rattle.branch_tree.proofs.Ahead.{ahead_from_root}
-use Rattle.branch_tree.proofs.Found.{counted_end, counted_site, counted_lane, leaves_counted, ended}
+use Rattle.branch_tree.proofs.Found.{counted_end, counted_branch, leaves_counted, ended}
 
 -- another list in the place of the entry at p
 abbrev pub put : List Entry → ℕ → List Entry → List Entry
@@ -46,21 +47,18 @@ before_left xs ys p h = ap (count_by is_end) (take-append-le p xs ys h)
 pub counted-append : (xs ys : List Entry) → count_by is_end (xs ++ ys) ≡ count_by is_end xs + count_by is_end ys
 counted-append [] ys = omega arith
 counted-append (End d ∷ xs) ys = omega (arith, counted_end d (xs ++ ys), counted_end d xs, counted-append xs ys)
-counted-append (SiteSplit s ∷ xs) ys = omega (arith, counted_site s (xs ++ ys), counted_site s xs, counted-append xs ys)
-counted-append (LaneSplit s c ∷ xs) ys = omega (arith, counted_lane s c (xs ++ ys), counted_lane s c xs, counted-append xs ys)
+counted-append (Branch split ∷ xs) ys = omega (arith, counted_branch split (xs ++ ys), counted_branch split xs, counted-append xs ys)
 
-flat_total : (t : Node) → count_by is_end (flat t) ≡ leaf_total t
+pub flat_total : (t : Node) → count_by is_end (flat t) ≡ leaf_total t
 flat_total t = sym (leaves_counted [] (flat t)) ∙ ap length (ahead_from_root t)
 
 -- a leaf that stands in the list has fewer before it than there are
 before_less : (n : List Entry) (p : ℕ) (d : Duals) → slice_get n p ≡ Some (End d) → before n p < count_by is_end n
 before_less [] p d h = cc
 before_less (End e ∷ es) zero d h = omega (arith, counted_end e es)
-before_less (SiteSplit s ∷ es) zero d h = cc
-before_less (LaneSplit s c ∷ es) zero d h = cc
+before_less (Branch split ∷ es) zero d h = cc
 before_less (End e ∷ es) (suc p) d h = omega (arith, counted_end e es, counted_end e (take p es), before_less es p d h)
-before_less (SiteSplit s ∷ es) (suc p) d h = omega (arith, counted_site s es, counted_site s (take p es), before_less es p d h)
-before_less (LaneSplit s c ∷ es) (suc p) d h = omega (arith, counted_lane s c es, counted_lane s c (take p es), before_less es p d h)
+before_less (Branch split ∷ es) (suc p) d h = omega (arith, counted_branch split es, counted_branch split (take p es), before_less es p d h)
 
 take_right : (xs ys : List Entry) (p q : ℕ) → p ≡ length xs + q → take p (xs ++ ys) ≡ xs ++ take q ys
 take_right [] ys p q h = let same : p ≡ q = omega arith in ap (λ k. take k ys) same
@@ -82,36 +80,31 @@ module _ (part : Node) where
   abbrev Puts : Node → Type 0
   Puts t = (p k : ℕ) (d : Duals) → slice_get (flat t) p ≡ Some (End d) → before (flat t) p ≡ k → flat (replaced t k part) ≡ put (flat t) p (flat part)
 
-  puts_below : (N : Node → Node → Node) (e : Entry) (a b : Node) → ((x y : Node) → flat (N x y) ≡ e ∷ (flat x ++ flat y)) → Puts a → Puts b
-      → (p k : ℕ) (d : Duals) → slice_get (flat a ++ flat b) p ≡ Some (End d) → before (flat a ++ flat b) p ≡ k
-      → flat (cond (nat_lt k (leaf_total a)) (N (replaced a k part) b) (N a (replaced b (k - leaf_total a) part))) ≡ e ∷ put (flat a ++ flat b) p (flat part)
-  puts_below N e a b spells on_a on_b p k d here count =
+  puts_below : (split : Split) (a b : Node) → Puts a → Puts b → (p k : ℕ) (d : Duals) → slice_get (flat a ++ flat b) p ≡ Some (End d) → before (flat a ++ flat b) p ≡ k
+      → flat (replaced (Fork split a b) k part) ≡ Branch split ∷ put (flat a ++ flat b) p (flat part)
+  puts_below split a b on_a on_b p k d here count =
       elim (cases_lt p (length (flat a))) [
         | inl left ↦
             let found : slice_get (flat a) p ≡ Some (End d) = sym (get_left (flat a) (flat b) p left) ∙ here in
             let counted : before (flat a) p ≡ k = sym (before_left (flat a) (flat b) p (omega arith)) ∙ count in
             let few : k < leaf_total a = omega (arith, before_less (flat a) p d found, flat_total a) in
-            ap (λ t. flat (cond t (N (replaced a k part) b) (N a (replaced b (k - leaf_total a) part)))) (lt-ltb k (leaf_total a) few)
-            ∙ spells (replaced a k part) b
-            ∙ ap (λ es. e ∷ (es ++ flat b)) (on_a p k d found counted)
-            ∙ ap (λ es. e ∷ es) (sym (put_left (flat a) (flat b) (flat part) p left))
+            ap (λ t. flat (cond t (Fork split (replaced a k part) b) (Fork split a (replaced b (k - leaf_total a) part)))) (lt-ltb k (leaf_total a) few)
+            ∙ ap (λ es. Branch split ∷ (es ++ flat b)) (on_a p k d found counted)
+            ∙ ap (λ es. Branch split ∷ es) (sym (put_left (flat a) (flat b) (flat part) p left))
         | inr right ↦
-            let split : p ≡ length (flat a) + (p - length (flat a)) = omega arith in
-            let found : slice_get (flat b) (p - length (flat a)) ≡ Some (End d) = sym (get_right (flat a) (flat b) p (p - length (flat a)) split) ∙ here in
-            let all : before (flat a ++ flat b) p ≡ leaf_total a + before (flat b) (p - length (flat a)) = ap (count_by is_end) (take_right (flat a) (flat b) p (p - length (flat a)) split) ∙ counted-append (flat a) (take (p - length (flat a)) (flat b)) ∙ ap (λ m. m + before (flat b) (p - length (flat a))) (flat_total a) in
-            ap (λ t. flat (cond t (N (replaced a k part) b) (N a (replaced b (k - leaf_total a) part)))) (le-ltb k (leaf_total a) (omega arith))
-            ∙ spells a (replaced b (k - leaf_total a) part)
-            ∙ ap (λ es. e ∷ (flat a ++ es)) (on_b (p - length (flat a)) (k - leaf_total a) d found (omega arith))
-            ∙ ap (λ es. e ∷ es) (sym (put_right (flat a) (flat b) (flat part) p (p - length (flat a)) split))
+            let place : p ≡ length (flat a) + (p - length (flat a)) = omega arith in
+            let found : slice_get (flat b) (p - length (flat a)) ≡ Some (End d) = sym (get_right (flat a) (flat b) p (p - length (flat a)) place) ∙ here in
+            let all : before (flat a ++ flat b) p ≡ leaf_total a + before (flat b) (p - length (flat a)) = ap (count_by is_end) (take_right (flat a) (flat b) p (p - length (flat a)) place) ∙ counted-append (flat a) (take (p - length (flat a)) (flat b)) ∙ ap (λ m. m + before (flat b) (p - length (flat a))) (flat_total a) in
+            ap (λ t. flat (cond t (Fork split (replaced a k part) b) (Fork split a (replaced b (k - leaf_total a) part)))) (le-ltb k (leaf_total a) (omega arith))
+            ∙ ap (λ es. Branch split ∷ (flat a ++ es)) (on_b (p - length (flat a)) (k - leaf_total a) d found (omega arith))
+            ∙ ap (λ es. Branch split ∷ es) (sym (put_right (flat a) (flat b) (flat part) p (p - length (flat a)) place))
       ]
 
   pub flat_replaced : (t : Node) → Puts t
   flat_replaced (Leaf x) zero k d here count = sym (append-nil (flat part))
   flat_replaced (Leaf x) (suc p) k d here count = cc
-  flat_replaced (OnSite s a b) zero k d here count = cc
-  flat_replaced (OnSite s a b) (suc p) k d here count = puts_below (OnSite s) (SiteSplit s) a b (λ x y. refl) (flat_replaced a) (flat_replaced b) p k d here (sym (counted_site s (take p (flat a ++ flat b))) ∙ count) ∙ sym (put_later (SiteSplit s) (flat a ++ flat b) (flat part) p)
-  flat_replaced (OnLane s c a b) zero k d here count = cc
-  flat_replaced (OnLane s c a b) (suc p) k d here count = puts_below (OnLane s c) (LaneSplit s c) a b (λ x y. refl) (flat_replaced a) (flat_replaced b) p k d here (sym (counted_lane s c (take p (flat a ++ flat b))) ∙ count) ∙ sym (put_later (LaneSplit s c) (flat a ++ flat b) (flat part) p)
+  flat_replaced (Fork split a b) zero k d here count = cc
+  flat_replaced (Fork split a b) (suc p) k d here count = puts_below split a b (flat_replaced a) (flat_replaced b) p k d here (sym (counted_branch split (take p (flat a ++ flat b))) ∙ count) ∙ sym (put_later (Branch split) (flat a ++ flat b) (flat part) p)
 
 length_put : (n m : List Entry) (p : ℕ) → p < length n → length (put n p m) + 1 ≡ length n + length m
 length_put [] m p h = absurd (omega arith)
@@ -121,8 +114,8 @@ length_put (x ∷ xs) m (suc p) h = omega (arith, ap length (put_later x xs m p)
 module _ {S C : List ℕ} {n : List Entry} (stored : IsStored S C n) {S' C' : List ℕ} {m : List Entry} (part : IsStored S' C' m) (p k : ℕ) (inside : p < length n) (leaf : (e : Entry) → is_end (get_or n p e) ≡ true) (count : before n p ≡ k) (r : List Entry) (is : r ≡ splice n p (p + 1) m) where
   spliced_flat : r ≡ flat (replaced (tree_of n) k (tree_of m))
   spliced_flat =
-      let found : (d : Duals) × (get_or n p (LaneSplit 0 0) ≡ End d) = ended (get_or n p (LaneSplit 0 0)) (leaf (LaneSplit 0 0)) in
-      let here : slice_get (flat (tree_of n)) p ≡ Some (End found.0) = subst (λ xs. slice_get xs p ≡ Some (End found.0)) stored.whole (slice_get-get_or n p (LaneSplit 0 0) inside ∙ ap Some found.1) in
+      let found : (d : Duals) × (get_or n p (End no_duals) ≡ End d) = ended (get_or n p (End no_duals)) (leaf (End no_duals)) in
+      let here : slice_get (flat (tree_of n)) p ≡ Some (End found.0) = subst (λ xs. slice_get xs p ≡ Some (End found.0)) stored.whole (slice_get-get_or n p (End no_duals) inside ∙ ap Some found.1) in
       is ∙ ap (λ xs. put xs p m) stored.whole ∙ ap (put (flat (tree_of n)) p) part.whole
       ∙ sym (flat_replaced (tree_of m) (tree_of n) p k found.0 here (subst (λ xs. before xs p ≡ k) stored.whole count))
 

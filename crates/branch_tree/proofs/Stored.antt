@@ -1,21 +1,19 @@
 -- What holds of a tree that is stored as the list of its nodes.
-use Rattle.std.proofs.Common.{◌≡◌, ℕ, ◌+◌, ◌*◌, ◌^◌, ◌<◌, ◌≤◌, sym, ap, subst, ◌∙◌, arith, List, [], ◌∷◌, ◌++◌, length, length-append, map, get_or, Some, option_map}
-use Rattle.std.specs.Prelude.{All, slice_get, slice_index, replicate, pos}
+use Rattle.std.proofs.Common.{◌≡◌, ℕ, ◌+◌, ◌*◌, ◌^◌, ◌<◌, sym, ap, subst, ◌∙◌, arith, List, [], ◌∷◌, ◌++◌, length, length-append, map, get_or, Some, option_map}
+use Rattle.std.specs.Prelude.{All, slice_get}
 use Rattle.std.proofs.lemmas.Option.{slice_get-map, slice_get-get_or}
-use Rattle.std.proofs.lemmas.List.Elements.{All-same, All-cons, All-append, All-replicate}
-use Rattle.std.proofs.Common.{lit≤}
-use Rattle.std.specs.Int.RustNames.{unsigned_abs}
-use Rattle.location_terms.specs.declared.limits.TheConstants.{MAX_VALUE, MAX_MULTIPLIER}
-use Rattle.std.proofs.lemmas.List.{length-replicate, get_or-replicate}
-use Rattle.location_terms.specs.Tree.{Node, Leaf, Tree, IsTree, nodes_of, size_of, leaves_of}
+use Rattle.std.proofs.lemmas.List.Elements.{All-same, All-cons, All-append}
+use Rattle.location_terms.specs.declared.split.Split.{Split}
+use Rattle.location_terms.specs.Split.{IsSplitAmong}
+use Rattle.location_terms.specs.Tree.{Leaf, Fork, Tree, IsTree, nodes_of, size_of, leaves_of}
 use Rattle.branch_tree.specs.declared.entry.Entry.{Entry}
-use Rattle.branch_tree.specs.declared.entry.Entry.TheVariants.{End}
+use Rattle.branch_tree.specs.declared.entry.Entry.TheVariants.{End, Branch}
 use Rattle.branch_tree.specs.Preorder.{flat, tree_of, tree_of-flat, IsSound, IsStored}
 use Rattle.location_terms.specs.Instance.{Instance, site_ids, customer_ids}
 use Rattle.location_terms.specs.Bound.{Duals}
 use Rattle.location_terms.specs.Fit.{DualsFit}
 use Rattle.location_terms.proofs.Places.{length-site_ids, length-customer_ids}
-use Rattle.branch_tree.specs.Made.{nodes_shown, entry_shown, leaf_of}
+use Rattle.branch_tree.specs.Made.{nodes_shown, entry_shown, leaf_of, forked}
 use Rattle.branch_tree.proofs.Flat.{length-flat, leaves_and_splits, nodes_shown-flat, splits_sound, leaves_sound}
 
 -- the tree that these lists store
@@ -45,25 +43,32 @@ stored_end S C d n e sound = record {
   few = omega (arith, ap length e);
 }
 
--- a split on an entry, over two trees
-module _ (e : Entry) (N : Node → Node → Node) (spells : (a b : Node) → flat (N a b) ≡ e ∷ (flat a ++ flat b)) where
-  flat_joined : (a b : Node) (m n all : List Entry) → m ≡ flat a → n ≡ flat b → all ≡ e ∷ (m ++ n) → all ≡ flat (N a b)
-  flat_joined a b m n all h k j = j ∙ ap (λ x. e ∷ (x ++ n)) h ∙ ap (λ x. e ∷ (flat a ++ x)) k ∙ sym (spells a b)
+-- a split over two trees
+module _ (split : Split) {S C S' C' : List ℕ} {m n : List Entry} (all : List Entry) (h : IsStored S C m) (k : IsStored S' C' n) (is : all ≡ Branch split ∷ (m ++ n)) where
+  flat_joined : all ≡ flat (Fork split (tree_of m) (tree_of n))
+  flat_joined = is ∙ ap (λ x. Branch split ∷ (x ++ n)) h.whole ∙ ap (λ x. Branch split ∷ (flat (tree_of m) ++ x)) k.whole
 
-  pub joined_tree : {S C S' C' : List ℕ} {m n : List Entry} (all : List Entry) → IsStored S C m → IsStored S' C' n → all ≡ e ∷ (m ++ n) → tree_of all ≡ N (tree_of m) (tree_of n)
-  joined_tree {S} {C} {S'} {C'} {m} {n} all h k j = ap tree_of (flat_joined (tree_of m) (tree_of n) m n all h.whole k.whole j) ∙ tree_of-flat (N (tree_of m) (tree_of n))
+  pub joined_tree : tree_of all ≡ Fork split (tree_of m) (tree_of n)
+  joined_tree = ap tree_of flat_joined ∙ tree_of-flat (Fork split (tree_of m) (tree_of n))
 
-  pub joined_stored : {S C S' C' : List ℕ} {m n : List Entry} (all : List Entry) (x y : Tree) → IsStored S C m → IsStored S' C' n → seen S C m ≡ x → seen S' C' n ≡ y → y.sites ≡ x.sites → y.customers ≡ x.customers → IsSound x.sites x.customers e → nodes_of x + nodes_of y + 1 < 2 ^ 32 → all ≡ e ∷ (m ++ n) → IsStored S C all
-  joined_stored {S} {C} {S'} {C'} {m} {n} all x y h k v w same_sites same_customers named few j =
-      let sites : S' ≡ S = ap (λ t. t.sites) w ∙ same_sites ∙ sym (ap (λ t. t.sites) v) in
-      let customers : C' ≡ C = ap (λ t. t.customers) w ∙ same_customers ∙ sym (ap (λ t. t.customers) v) in
-      let second : All (IsSound S C) n = subst (λ c. All (IsSound S c) n) customers (subst (λ s. All (IsSound s C') n) sites k.sound) in
-      let first : IsSound S C e = subst (λ c. IsSound S c e) (sym (ap (λ t. t.customers) v)) (subst (λ s. IsSound s x.customers e) (sym (ap (λ t. t.sites) v)) named) in
-      record {
-        whole = flat_joined (tree_of m) (tree_of n) m n all h.whole k.whole j ∙ ap flat (sym (joined_tree all h k j));
-        sound = All-same (IsSound S C) all (e ∷ (m ++ n)) j (All-cons (IsSound S C) e (m ++ n) first (All-append (IsSound S C) m n h.sound second));
-        few = omega (arith, ap length j, length-append m n, stored_size h, stored_size k, ap nodes_of v, ap nodes_of w);
-      }
+  module _ (x y : Tree) (v : seen S C m ≡ x) (u : seen S' C' n ≡ y) where
+    pub joined_stored : y.sites ≡ x.sites → y.customers ≡ x.customers → IsSplitAmong x.sites x.customers split → nodes_of x + nodes_of y + 1 < 2 ^ 32 → IsStored S C all
+    joined_stored same_sites same_customers named few =
+        let sites : S' ≡ S = ap (λ t. t.sites) u ∙ same_sites ∙ sym (ap (λ t. t.sites) v) in
+        let customers : C' ≡ C = ap (λ t. t.customers) u ∙ same_customers ∙ sym (ap (λ t. t.customers) v) in
+        let second : All (IsSound S C) n = subst (λ c. All (IsSound S c) n) customers (subst (λ s. All (IsSound s C') n) sites k.sound) in
+        let first : IsSound S C (Branch split) = subst (λ (t : Tree). IsSound t.sites t.customers (Branch split)) (sym v) named in
+        record {
+          whole = flat_joined ∙ ap flat (sym joined_tree);
+          sound = All-same (IsSound S C) all (Branch split ∷ (m ++ n)) is (All-cons (IsSound S C) (Branch split) (m ++ n) first (All-append (IsSound S C) m n h.sound second));
+          few = omega (arith, ap length is, length-append m n, stored_size h, stored_size k, ap nodes_of v, ap nodes_of u);
+        }
+
+    pub joined_seen : seen S C all ≡ forked split x y
+    joined_seen =
+        ap (λ r. let t : Tree = record { sites = S; customers = C; root = r } in t) joined_tree
+        ∙ ap (λ t. forked split t (seen S' C' n)) v
+        ∙ ap (forked split x) u
 
 pub stored_shown_at : {S C : List ℕ} {n : List Entry} → IsStored S C n → (k : ℕ) (x : Entry) → k < length n → x ≡ get_or n k x → slice_get (nodes_shown (tree_of n)) k ≡ Some (entry_shown x)
 stored_shown_at {S} {C} {n} stored k x within e =

@@ -3,42 +3,39 @@ use Rattle.std.proofs.Common.{◌≡◌, ℕ, ◌+◌, suc, refl, sym, ap, subst
 use Rattle.std.proofs.lemmas.List.{append_assoc, append-nil}
 use Rattle.location_terms.specs.declared.decision.Decision.{Decision}
 use Rattle.location_terms.specs.declared.decision.Decision.TheVariants.{Opened, Closed, Yes, No}
+use Rattle.location_terms.specs.declared.split.Split.{Split}
+use Rattle.location_terms.specs.declared.split.Split.TheVariants.{Site, Lane}
 use Rattle.location_terms.specs.Box.{Path}
-use Rattle.location_terms.specs.Tree.{Node, Leaf, OnSite, OnLane}
+use Rattle.location_terms.specs.Split.{first_step, second_step}
+use Rattle.location_terms.specs.Tree.{Node, Leaf, Fork}
 use Rattle.location_terms.specs.Bound.{Duals}
 use Rattle.branch_tree.specs.declared.entry.Entry.{Entry}
-use Rattle.branch_tree.specs.declared.entry.Entry.TheVariants.{End, SiteSplit, LaneSplit}
-use Rattle.branch_tree.specs.Preorder.{flat, forest, joined_on_site, joined_on_lane, first_tree, tree_of, IsStored}
+use Rattle.branch_tree.specs.declared.entry.Entry.TheVariants.{End, Branch}
+use Rattle.branch_tree.specs.Preorder.{flat, forest, joined, first_tree, tree_of, IsStored}
 use Rattle.branch_tree.specs.Begun.{AreSound}
-use Rattle.branch_tree.specs.Walk.{second_child, turned_within, turned, stepped, walked, IsWhole}
-use Rattle.branch_tree.proofs.Ahead.{turned_first, turned_second, turned_root}
+use Rattle.branch_tree.specs.Walk.{turned_within, turned, stepped, walked, IsWhole}
+use Rattle.branch_tree.proofs.Ahead.{turned_first, turned_second, turned_root, then_second, then_none}
 
 -- what holds of a walk behind a tree holds of it before the tree, if it is so with one entry
 module _ (P : Option Path → List Entry → Type 0) (leaf : (d : Duals) (path : Path) (es : List Entry) → P (turned path) es → P (Some path) (End d ∷ es))
-    (on_site : (s : ℕ) (path : Path) (es : List Entry) → P (Some (path ++ Closed s ∷ [])) es → P (Some path) (SiteSplit s ∷ es))
-    (on_lane : (s c : ℕ) (path : Path) (es : List Entry) → P (Some (path ++ No s c ∷ [])) es → P (Some path) (LaneSplit s c ∷ es)) where
-  both_children : (first second : Decision) (path : Path) (a b : Node) (es : List Entry) → second_child first ≡ Some second → second_child second ≡ None
-      → ((p : Path) (xs : List Entry) → P (turned p) xs → P (Some p) (flat a ++ xs)) → ((p : Path) (xs : List Entry) → P (turned p) xs → P (Some p) (flat b ++ xs))
-      → P (turned path) es → P (Some (path ++ first ∷ [])) ((flat a ++ flat b) ++ es)
-  both_children first second path a b es h k on_a on_b rest =
-      subst (P (Some (path ++ first ∷ []))) (sym (append_assoc (flat a) (flat b) es))
-      (on_a (path ++ first ∷ []) (flat b ++ es)
-      (subst (λ o. P o (flat b ++ es)) (sym (turned_first first second path h))
-      (on_b (path ++ second ∷ []) es
-      (subst (λ o. P o es) (sym (turned_second second path k)) rest))))
-
+    (branch : (split : Split) (path : Path) (es : List Entry) → P (Some (path ++ first_step split ∷ [])) es → P (Some path) (Branch split ∷ es)) where
   before_tree : (t : Node) (path : Path) (es : List Entry) → P (turned path) es → P (Some path) (flat t ++ es)
   before_tree (Leaf d) path es h = leaf d path es h
-  before_tree (OnSite s a b) path es h = on_site s path ((flat a ++ flat b) ++ es) (both_children (Closed s) (Opened s) path a b es refl refl (before_tree a) (before_tree b) h)
-  before_tree (OnLane s c a b) path es h = on_lane s c path ((flat a ++ flat b) ++ es) (both_children (No s c) (Yes s c) path a b es refl refl (before_tree a) (before_tree b) h)
+  before_tree (Fork split a b) path es h =
+      branch split path ((flat a ++ flat b) ++ es)
+      (subst (P (Some (path ++ first_step split ∷ []))) (sym (append_assoc (flat a) (flat b) es))
+      (before_tree a (path ++ first_step split ∷ []) (flat b ++ es)
+      (subst (λ o. P o (flat b ++ es)) (sym (turned_first (first_step split) (second_step split) path (then_second split)))
+      (before_tree b (path ++ second_step split ∷ []) es
+      (subst (λ o. P o es) (sym (turned_second (second_step split) path (then_none split))) h)))))
 
 -- a walk over a tree comes to what follows the tree
 pub walked-flat : (t : Node) (path : Path) (es : List Entry) → walked (Some path) (flat t ++ es) ≡ walked (turned path) es
-walked-flat t path es = before_tree (λ o xs. walked o xs ≡ walked (turned path) es) (λ d p xs h. h) (λ s p xs h. h) (λ s c p xs h. h) t path es refl
+walked-flat t path es = before_tree (λ o xs. walked o xs ≡ walked (turned path) es) (λ d p xs h. h) (λ s p xs h. h) t path es refl
 
 -- a tree, and then what makes the rest whole
 pub whole_after-flat : (t : Node) (path : Path) (es : List Entry) → IsWhole (turned path) es → IsWhole (Some path) (flat t ++ es)
-whole_after-flat = before_tree IsWhole (λ d p xs h. h) (λ s p xs h. h) (λ s c p xs h. h)
+whole_after-flat = before_tree IsWhole (λ d p xs h. h) (λ s p xs h. h)
 
 -- the nodes of a tree are whole
 pub whole-flat : (t : Node) → IsWhole (Some []) (flat t)
@@ -62,6 +59,10 @@ firsts-cons (Closed s) ds = omega arith
 firsts-cons (No s c) ds = omega arith
 firsts-cons (Opened s) ds = omega arith
 firsts-cons (Yes s c) ds = omega arith
+
+first_counted : (split : Split) → firsts (first_step split ∷ []) ≡ 1
+first_counted (Site s) = refl
+first_counted (Lane s c) = refl
 
 firsts_more : (path : Path) (d : Decision) → firsts (path ++ d ∷ []) ≡ firsts path + firsts (d ∷ [])
 firsts_more [] d = omega arith
@@ -87,15 +88,10 @@ abbrev flats : List Node → List Entry
 flats [] = []
 flats (t ∷ ts) = flat t ++ flats ts
 
-on_site_parsed : (s : ℕ) (es : List Entry) (ts : List Node) (n : ℕ) → es ≡ flats ts → length ts ≡ suc (suc n) → (SiteSplit s ∷ es ≡ flats (joined_on_site s ts)) × (length (joined_on_site s ts) ≡ suc n)
-on_site_parsed s es [] n e h = absurd (omega arith)
-on_site_parsed s es (a ∷ []) n e h = absurd (omega arith)
-on_site_parsed s es (a ∷ b ∷ ts) n e h = (ap (λ xs. SiteSplit s ∷ xs) (e ∙ sym (append_assoc (flat a) (flat b) (flats ts))), omega arith)
-
-on_lane_parsed : (s c : ℕ) (es : List Entry) (ts : List Node) (n : ℕ) → es ≡ flats ts → length ts ≡ suc (suc n) → (LaneSplit s c ∷ es ≡ flats (joined_on_lane s c ts)) × (length (joined_on_lane s c ts) ≡ suc n)
-on_lane_parsed s c es [] n e h = absurd (omega arith)
-on_lane_parsed s c es (a ∷ []) n e h = absurd (omega arith)
-on_lane_parsed s c es (a ∷ b ∷ ts) n e h = (ap (λ xs. LaneSplit s c ∷ xs) (e ∙ sym (append_assoc (flat a) (flat b) (flats ts))), omega arith)
+branch_parsed : (split : Split) (es : List Entry) (ts : List Node) (n : ℕ) → es ≡ flats ts → length ts ≡ suc (suc n) → (Branch split ∷ es ≡ flats (joined split ts)) × (length (joined split ts) ≡ suc n)
+branch_parsed split es [] n e h = absurd (omega arith)
+branch_parsed split es (a ∷ []) n e h = absurd (omega arith)
+branch_parsed split es (a ∷ b ∷ ts) n e h = (ap (λ xs. Branch split ∷ xs) (e ∙ sym (append_assoc (flat a) (flat b) (flats ts))), omega arith)
 
 -- what a walk takes for whole are as many trees as were still to come
 parsed : (at : Option Path) (es : List Entry) → IsWhole at es → (es ≡ flats (forest es)) × (length (forest es) ≡ due at)
@@ -105,12 +101,9 @@ parsed (Some p) [] h = absurd h
 parsed (Some p) (End d ∷ es) h =
     let rest = parsed (turned p) es h in
     (ap (λ xs. End d ∷ xs) rest.0, omega (arith, rest.1, due_turned p))
-parsed (Some p) (SiteSplit s ∷ es) h =
-    let rest = parsed (Some (p ++ Closed s ∷ [])) es h in
-    on_site_parsed s es (forest es) (firsts p) rest.0 (omega (arith, rest.1, firsts_more p (Closed s)))
-parsed (Some p) (LaneSplit s c ∷ es) h =
-    let rest = parsed (Some (p ++ No s c ∷ [])) es h in
-    on_lane_parsed s c es (forest es) (firsts p) rest.0 (omega (arith, rest.1, firsts_more p (No s c)))
+parsed (Some p) (Branch split ∷ es) h =
+    let rest = parsed (Some (p ++ first_step split ∷ [])) es h in
+    branch_parsed split es (forest es) (firsts p) rest.0 (omega (arith, rest.1, firsts_more p (first_step split), first_counted split))
 
 one_tree : (ts : List Node) (es : List Entry) → es ≡ flats ts → length ts ≡ 1 → es ≡ flat (first_tree ts)
 one_tree [] es e h = absurd (omega arith)

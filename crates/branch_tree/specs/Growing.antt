@@ -1,38 +1,15 @@
 -- A tree that grows from one leaf. Its last leaf in preorder that is not done is at work.
 use Rattle.std.specs.Prelude.{ℕ, ◌+◌, ◌-◌, Option, slice_get, refl}
 use Rattle.std.specs.Coded.{Coded, code_by, coded_ℕ, coded_list, coded×}
-use Rattle.location_terms.specs.declared.decision.Decision.{Decision}
-use Rattle.location_terms.specs.declared.decision.Decision.TheVariants.{Opened, Closed, Yes, No}
+use Rattle.location_terms.specs.declared.split.Split.{Split}
 use Rattle.location_terms.specs.Instance.{Instance}
 use Rattle.location_terms.specs.Box.{Path}
 use Rattle.location_terms.specs.Bound.{Duals}
-use Rattle.location_terms.specs.Tree.{Node, Leaf, OnSite, OnLane, Tree, leaves_below}
-use Rattle.branch_tree.specs.declared.entry.Entry.{Entry}
-use Rattle.branch_tree.specs.declared.entry.Entry.TheVariants.{SiteSplit, LaneSplit}
-use Rattle.branch_tree.specs.declared.split.Split.{Split}
-use Rattle.branch_tree.specs.declared.split.Split.TheVariants.{Site, Lane}
+use Rattle.location_terms.specs.Tree.{Node, Leaf, Fork, Tree, leaves_below}
 use Rattle.dual_value.specs.Prepared.{decision_code}
 use Rattle.branch_tree.specs.Preorder.{tree_code}
 use Rattle.branch_tree.specs.Leaf.{replaced}
 use Rattle.branch_tree.specs.Made.{leaf_of}
-
-abbrev pub entry_of : Split → Entry
-entry_of (Site s) = SiteSplit s
-entry_of (Lane s c) = LaneSplit s c
-
--- the decision of a split's first child, and of its second
-abbrev pub first_step : Split → Decision
-first_step (Site s) = Closed s
-first_step (Lane s c) = No s c
-
-abbrev pub second_step : Split → Decision
-second_step (Site s) = Opened s
-second_step (Lane s c) = Yes s c
-
--- the split with these children
-abbrev pub split_node : Split → Node → Node → Node
-split_node (Site s) first second = OnSite s first second
-split_node (Lane s c) first second = OnLane s c first second
 
 -- the tree that stands so far, the path to its root, and how many leaves are left: those that come first in preorder
 pub record Growing : Type 0 where
@@ -54,7 +31,7 @@ growing_from I path d = record { tree = leaf_of I d; base = path; left = 1 }
 
 -- the leaf at work is split in two leaves, of which the second is at work next
 abbrev pub split_in_two : Growing → Split → Duals → Duals → Growing
-split_in_two g split first second = record (worked g (split_node split (Leaf first) (Leaf second))) { left = g.left + 1 }
+split_in_two g split first second = record (worked g (Fork split (Leaf first) (Leaf second))) { left = g.left + 1 }
 
 -- the code by which a struct can have a growing tree as its value
 abbrev pub growing_code : Coded Growing

@@ -7,3 +7,4 @@ pub mod Begun
 pub mod Growing
 pub mod OpenSplits
 pub mod Built
+pub mod Renewing

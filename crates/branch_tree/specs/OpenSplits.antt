@@ -3,12 +3,12 @@ use Rattle.std.specs.Prelude.{◌≡◌, ℕ, ◌^◌, ◌-◌, ◌<◌, ◌≤�
 use Rattle.std.specs.List.{flat_map}
 use Rattle.location_terms.specs.declared.decision.Decision.{Decision}
 use Rattle.location_terms.specs.Box.{Path}
+use Rattle.location_terms.specs.Split.{first_step, second_step}
 use Rattle.location_terms.specs.Bound.{Duals}
 use Rattle.branch_tree.specs.declared.entry.Entry.{Entry}
-use Rattle.branch_tree.specs.declared.entry.Entry.TheVariants.{End}
+use Rattle.branch_tree.specs.declared.entry.Entry.TheVariants.{End, Branch}
 use Rattle.branch_tree.specs.declared.open_split.OpenSplit.{OpenSplit}
 use Rattle.branch_tree.specs.Preorder.{flat, tree_of, IsSound}
-use Rattle.branch_tree.specs.Growing.{entry_of, first_step, second_step}
 
 -- a leaf where there are duals
 abbrev pub ends_of : Option Duals → List Entry
@@ -17,7 +17,7 @@ ends_of (Some d) = End d ∷ []
 
 -- the split, and its first child where that waits
 abbrev pub entries_of : OpenSplit → List Entry
-entries_of o = entry_of o.split ∷ ends_of o.first
+entries_of o = Branch o.split ∷ ends_of o.first
 
 -- the step to the child that the leaf at work is below: to the second while the first waits
 abbrev pub step_of : OpenSplit → Decision

@@ -1,36 +1,32 @@
 -- A tree as the list of its nodes in preorder, and back.
-use Rattle.std.specs.Prelude.{◌≡◌, ℕ, ◌^◌, ◌<◌, ◌⊎◌, List, [], ◌∷◌, ◌++◌, length, All, Contains, ℤ, pos, refl}
+use Rattle.std.specs.Prelude.{◌≡◌, ℕ, ◌^◌, ◌<◌, ◌⊎◌, List, [], ◌∷◌, ◌++◌, length, All, ℤ, pos, refl}
 use Rattle.std.specs.Coded.{Coded, code_by, coded_ℕ, coded_ℤ, coded_list, coded×, coded⊎}
 use Rattle.std.proofs.Common.{sym, ap, ◌∙◌, inl, inr}
 use Rattle.std.proofs.lemmas.List.{append_assoc, append-nil}
 use Rattle.branch_tree.specs.declared.entry.Entry.{Entry}
-use Rattle.branch_tree.specs.declared.entry.Entry.TheVariants.{End, SiteSplit, LaneSplit}
+use Rattle.branch_tree.specs.declared.entry.Entry.TheVariants.{End, Branch}
+use Rattle.location_terms.specs.declared.split.Split.{Split}
+use Rattle.location_terms.specs.declared.split.Split.TheVariants.{Site, Lane}
+use Rattle.location_terms.specs.Split.{IsSplitAmong}
 use Rattle.location_terms.specs.Bound.{Duals}
-use Rattle.location_terms.specs.Tree.{Node, Leaf, OnSite, OnLane, Tree, HasLists}
+use Rattle.location_terms.specs.Tree.{Node, Leaf, Fork, Tree, HasLists}
 
 -- a node, then the nodes of its first child, then those of its second
 abbrev pub flat : Node → List Entry
 flat (Leaf d) = End d ∷ []
-flat (OnSite s closed opened) = SiteSplit s ∷ (flat closed ++ flat opened)
-flat (OnLane s c without using) = LaneSplit s c ∷ (flat without ++ flat using)
+flat (Fork split first second) = Branch split ∷ (flat first ++ flat second)
 
 -- a split takes the first two trees of those that follow it
-abbrev pub joined_on_site : ℕ → List Node → List Node
-joined_on_site s [] = []
-joined_on_site s (a ∷ []) = []
-joined_on_site s (a ∷ b ∷ rest) = OnSite s a b ∷ rest
-
-abbrev pub joined_on_lane : ℕ → ℕ → List Node → List Node
-joined_on_lane s c [] = []
-joined_on_lane s c (a ∷ []) = []
-joined_on_lane s c (a ∷ b ∷ rest) = OnLane s c a b ∷ rest
+abbrev pub joined : Split → List Node → List Node
+joined split [] = []
+joined split (a ∷ []) = []
+joined split (a ∷ b ∷ rest) = Fork split a b ∷ rest
 
 -- the trees whose nodes stand one after another in the list
 abbrev pub forest : List Entry → List Node
 forest [] = []
 forest (End d ∷ es) = Leaf d ∷ forest es
-forest (SiteSplit s ∷ es) = joined_on_site s (forest es)
-forest (LaneSplit s c ∷ es) = joined_on_lane s c (forest es)
+forest (Branch split ∷ es) = joined split (forest es)
 
 abbrev pub no_duals : Duals
 no_duals = record { q = 0; nu = pos 0; v = []; u = [] }
@@ -45,31 +41,47 @@ tree_of es = first_tree (forest es)
 
 pub forest-flat : (t : Node) (es : List Entry) → forest (flat t ++ es) ≡ t ∷ forest es
 forest-flat (Leaf d) es = refl
-forest-flat (OnSite s a b) es = ap (λ xs. joined_on_site s (forest xs)) (append_assoc (flat a) (flat b) es) ∙ ap (joined_on_site s) (forest-flat a (flat b ++ es) ∙ ap (λ ts. a ∷ ts) (forest-flat b es))
-forest-flat (OnLane s c a b) es = ap (λ xs. joined_on_lane s c (forest xs)) (append_assoc (flat a) (flat b) es) ∙ ap (joined_on_lane s c) (forest-flat a (flat b ++ es) ∙ ap (λ ts. a ∷ ts) (forest-flat b es))
+forest-flat (Fork split a b) es = ap (λ xs. joined split (forest xs)) (append_assoc (flat a) (flat b) es) ∙ ap (joined split) (forest-flat a (flat b ++ es) ∙ ap (λ ts. a ∷ ts) (forest-flat b es))
 
 pub tree_of-flat : (t : Node) → tree_of (flat t) ≡ t
 unfolding tree_of
 tree_of-flat t = ap (λ es. first_tree (forest es)) (sym (append-nil (flat t))) ∙ ap first_tree (forest-flat t [])
 
--- an entry is stored as its duals, its site, or its site and customer
-abbrev pub entry_parts : Entry → (ℕ × (ℤ × (List ℤ × List ℕ))) ⊎ (ℕ ⊎ (ℕ × ℕ))
-entry_parts (End d) = inl (d.q, (d.nu, (d.v, d.u)))
-entry_parts (SiteSplit s) = inr (inl s)
-entry_parts (LaneSplit s c) = inr (inr (s, c))
+-- a split is stored as its site, or as its site and customer
+abbrev pub split_parts : Split → ℕ ⊎ (ℕ × ℕ)
+split_parts (Site s) = inl s
+split_parts (Lane s c) = inr (s, c)
 
-abbrev pub entry_from : (ℕ × (ℤ × (List ℤ × List ℕ))) ⊎ (ℕ ⊎ (ℕ × ℕ)) → Entry
-entry_from (inl d) = End (record { q = d.0; nu = d.1.0; v = d.1.1.0; u = d.1.1.1 })
-entry_from (inr (inl s)) = SiteSplit s
-entry_from (inr (inr p)) = LaneSplit p.0 p.1
+abbrev pub split_from : ℕ ⊎ (ℕ × ℕ) → Split
+split_from (inl s) = Site s
+split_from (inr p) = Lane p.0 p.1
+
+pub split_from-parts : (split : Split) → split_from (split_parts split) ≡ split
+split_from-parts (Site s) = refl
+split_from-parts (Lane s c) = refl
+
+abbrev pub split_code : Coded Split
+split_code = code_by (ℕ ⊎ (ℕ × ℕ)) (coded⊎ coded_ℕ (coded× coded_ℕ coded_ℕ)) split_parts split_from split_from-parts
+
+-- the code by which a struct can have duals as a part of its value
+abbrev pub duals_code : Coded Duals
+duals_code = code_by (ℕ × (ℤ × (List ℤ × List ℕ))) (coded× coded_ℕ (coded× coded_ℤ (coded× (coded_list coded_ℤ) (coded_list coded_ℕ)))) (λ d. (d.q, (d.nu, (d.v, d.u)))) (λ p. record { q = p.0; nu = p.1.0; v = p.1.1.0; u = p.1.1.1 }) (λ _. refl)
+
+-- an entry is stored as its duals or its split
+abbrev pub entry_parts : Entry → Duals ⊎ Split
+entry_parts (End d) = inl d
+entry_parts (Branch split) = inr split
+
+abbrev pub entry_from : Duals ⊎ Split → Entry
+entry_from (inl d) = End d
+entry_from (inr split) = Branch split
 
 pub entry_from-parts : (e : Entry) → entry_from (entry_parts e) ≡ e
 entry_from-parts (End d) = refl
-entry_from-parts (SiteSplit s) = refl
-entry_from-parts (LaneSplit s c) = refl
+entry_from-parts (Branch split) = refl
 
 abbrev pub entry_code : Coded Entry
-entry_code = code_by ((ℕ × (ℤ × (List ℤ × List ℕ))) ⊎ (ℕ ⊎ (ℕ × ℕ))) (coded⊎ (coded× coded_ℕ (coded× coded_ℤ (coded× (coded_list coded_ℤ) (coded_list coded_ℕ)))) (coded⊎ coded_ℕ (coded× coded_ℕ coded_ℕ))) entry_parts entry_from entry_from-parts
+entry_code = code_by (Duals ⊎ Split) (coded⊎ duals_code split_code) entry_parts entry_from entry_from-parts
 
 -- a tree is stored as its ids and the list of its nodes
 abbrev pub tree_parts : Tree → List ℕ × (List ℕ × List Entry)
@@ -84,11 +96,10 @@ tree_from-parts t = ap (λ n. let r : Tree = record { sites = t.sites; customers
 abbrev pub tree_code : Coded Tree
 tree_code = code_by (List ℕ × (List ℕ × List Entry)) (coded× (coded_list coded_ℕ) (coded× (coded_list coded_ℕ) (coded_list entry_code))) tree_parts tree_from tree_from-parts
 
--- a split is on one of the ids, and a leaf's duals have a number for each, within the limits
+-- a leaf's duals have a number for each of the ids, within the limits, and a split is on them
 abbrev pub IsSound : List ℕ → List ℕ → Entry → Type 0
 IsSound sites customers (End d) = HasLists (length sites) (length customers) d
-IsSound sites customers (SiteSplit s) = Contains sites s
-IsSound sites customers (LaneSplit s c) = Contains sites s × Contains customers c
+IsSound sites customers (Branch split) = IsSplitAmong sites customers split
 
 -- the list is that of one whole tree on these ids, whose nodes a u32 can count
 pub record IsStored (sites customers : List ℕ) (nodes : List Entry) : Type 0 where

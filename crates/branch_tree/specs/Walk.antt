@@ -1,14 +1,17 @@
 -- A walk over the nodes of a tree in preorder, which keeps the path to the next node.
 use Rattle.std.specs.Prelude.{ℕ, List, [], ◌∷◌, ◌++◌, Option, Some, None, unwrap_or, fold, nat_lt, min, if◌then◌else◌}
+use Rattle.std.specs.Coded.{Coded, coded_list, coded×}
 use Rattle.branch_tree.specs.declared.entry.Entry.{Entry}
-use Rattle.branch_tree.specs.declared.entry.Entry.TheVariants.{End, SiteSplit, LaneSplit}
+use Rattle.branch_tree.specs.declared.entry.Entry.TheVariants.{End, Branch}
 use Rattle.location_terms.specs.declared.decision.Decision.{Decision}
 use Rattle.location_terms.specs.declared.decision.Decision.TheVariants.{Opened, Closed, Yes, No}
 use Rattle.location_terms.specs.Instance.{Instance}
 use Rattle.location_terms.specs.Box.{Path}
+use Rattle.location_terms.specs.Split.{first_step}
 use Rattle.location_terms.specs.Bound.{Duals, bound_of}
-use Rattle.location_terms.specs.Fit.{DualsFit}
 use Rattle.location_terms.specs.Tree.{low_end}
+use Rattle.dual_value.specs.Prepared.{decision_code}
+use Rattle.branch_tree.specs.Preorder.{duals_code}
 
 -- the decision of a split's second child, from that of its first
 abbrev pub second_child : Decision → Option Decision
@@ -37,14 +40,12 @@ next path = unwrap_or (turned path) []
 -- the path to the node after this one
 abbrev pub passed : Path → Entry → Path
 passed path (End d) = next path
-passed path (SiteSplit s) = path ++ Closed s ∷ []
-passed path (LaneSplit s c) = path ++ No s c ∷ []
+passed path (Branch split) = path ++ first_step split ∷ []
 
 -- the path to the node after this one, and none where it ends the whole tree
 abbrev pub stepped : Path → Entry → Option Path
 stepped path (End d) = turned path
-stepped path (SiteSplit s) = Some (path ++ Closed s ∷ [])
-stepped path (LaneSplit s c) = Some (path ++ No s c ∷ [])
+stepped path (Branch split) = Some (path ++ first_step split ∷ [])
 
 -- the path to the node after these, where the walk starts at this one, and none once the tree is whole
 abbrev pub walked : Option Path → List Entry → Option Path
@@ -62,19 +63,21 @@ IsWhole (Some path) (e ∷ es) = IsWhole (stepped path e) es
 
 abbrev pub leaf_at : Path → Entry → List (Path × Duals)
 leaf_at path (End d) = (path, d) ∷ []
-leaf_at path (SiteSplit s) = []
-leaf_at path (LaneSplit s c) = []
+leaf_at path (Branch split) = []
 
 -- the leaves that a walk comes to from here on
 abbrev pub leaves_ahead : Path → List Entry → List (Path × Duals)
 leaves_ahead path [] = []
 leaves_ahead path (e ∷ es) = leaf_at path e ++ leaves_ahead (passed path e) es
 
--- the duals of a leaf fit
-abbrev pub EndFits : Instance → Entry → Type 0
-EndFits I (End d) = DualsFit I d
-EndFits I (SiteSplit s) = Unit {0}
-EndFits I (LaneSplit s c) = Unit {0}
+-- the leaf at hand, if one is left, and those that follow it
+abbrev pub leaves_from : Path → Option Duals → List Entry → List (Path × Duals)
+leaves_from path None es = []
+leaves_from path (Some d) es = (path, d) ∷ leaves_ahead (next path) es
+
+-- the code by which a struct can have leaves as its value
+abbrev pub leaves_code : Coded (List (Path × Duals))
+leaves_code = coded_list (coded× (coded_list decision_code) duals_code)
 
 -- the lesser of the number and of the low end of a leaf with a scale
 abbrev pub lowered : Instance → ℕ → Path × Duals → ℕ

@@ -1,16 +1,57 @@
-//! Whether a leaf closes its box, and the low end that it shows.
-ghost use Rattle.std.specs.Prelude.{◌≡◌, ◌≤◌, ◌↔◌, IsTrue, length, unsigned_abs};
+//! Whether leaves close their boxes, and the low end that they show.
+ghost use Rattle.std.specs.Prelude.{◌≡◌, ◌≤◌, ◌↔◌, All, IfOk, IsTrue, length, unsigned_abs};
 ghost use Rattle.location_terms.specs.Fit.{Closes, DualsFit};
-ghost use Rattle.location_terms.specs.Tree.{low_end};
+ghost use Rattle.location_terms.specs.Tree.{HasLists, low_end};
+ghost use Rattle.location_terms.specs.declared.limits.TheConstants.{MAX_COST};
 ghost use Rattle.dual_value.specs.declared.bounds.TheConstants.{MAX_BOUND};
-ghost use Rattle.branch_tree.specs.Walk.{lowered};
+ghost use Rattle.branch_tree.specs.Walk.{lowered, lowered_all};
 
+use crate::LeafWalk;
 use dual_value::{BoxBounds, Duals, Path, closes, fits};
-use instance_store::Instance;
+use instance_store::{Instance, NoMemory};
 use location_terms::MAX_COST;
 
+// Whether each leaf closes.
+pub(crate) fn all_close(
+    walk: LeafWalk<'_>,
+    inst: &Instance,
+    bounds: &mut BoxBounds<'_>,
+    target: Option<u64>,
+) -> Result<bool, NoMemory>
+    requires bounds { bounds.old ≡ inst.now }
+    requires lists { All (λ l. HasLists (length inst.now.sites) (length inst.now.customers) l.1) walk }
+    ensures kept { bounds.new ≡ bounds.old }
+    ensures exact { IfOk result (λ yes. IsTrue yes ↔ All (λ l. Closes inst.now l.0 l.1 target) walk.entry) }
+{
+    let mut walk = walk;
+    while !walk.is_done() {
+        let (path, duals) = walk.leaf();
+        if !closes_box(inst, bounds, path, duals, target) {
+            return Ok(false);
+        }
+        walk.pass()?;
+    }
+    Ok(true)
+}
+
+// The least low end of the leaves with a scale, and `MAX_COST` where there is none.
+pub(crate) fn least_low(walk: LeafWalk<'_>, bounds: &mut BoxBounds<'_>) -> Result<u64, NoMemory>
+    requires { All (λ l. DualsFit bounds.old l.1) walk }
+    ensures kept { bounds.new ≡ bounds.old }
+    ensures exact { IfOk result (λ low. low ≡ lowered_all bounds.old MAX_COST walk.entry) }
+{
+    let mut walk = walk;
+    let mut least = MAX_COST;
+    while !walk.is_done() {
+        let (path, duals) = walk.leaf();
+        least = lowered(bounds, path, duals, least);
+        walk.pass()?;
+    }
+    Ok(least)
+}
+
 // Whether the duals fit and their bound closes the box.
-pub(crate) fn closes_box(
+fn closes_box(
     inst: &Instance,
     bounds: &mut BoxBounds<'_>,
     path: &Path,
@@ -27,7 +68,7 @@ pub(crate) fn closes_box(
 }
 
 // The lesser of the number and of the low end that the duals show, where they have a scale.
-pub(crate) fn lowered(bounds: &mut BoxBounds<'_>, path: &Path, duals: &Duals, least: u64) -> u64
+fn lowered(bounds: &mut BoxBounds<'_>, path: &Path, duals: &Duals, least: u64) -> u64
     requires { DualsFit bounds.old duals.now }
     ensures kept { bounds.new ≡ bounds.old }
     ensures exact { result ≡ lowered bounds.old least (path.now, duals.now) }

@@ -1,7 +1,8 @@
 //! A tree that is made node by node, for whoever reads one from a text.
-ghost use Rattle.std.specs.Prelude.{[], ◌≡◌, ◌+◌, ◌^◌, ◌<◌, Contains, IfOk, OnErr, OnOk, Some, length};
+ghost use Rattle.std.specs.Prelude.{[], ◌≡◌, ◌+◌, ◌^◌, ◌<◌, IfOk, OnErr, OnOk, Some, length};
+ghost use Rattle.location_terms.specs.Split.{IsSplitAmong};
 ghost use Rattle.location_terms.specs.Tree.{HasLists};
-ghost use Rattle.branch_tree.specs.declared.entry.Entry.TheVariants.{End, SiteSplit, LaneSplit};
+ghost use Rattle.branch_tree.specs.declared.entry.Entry.TheVariants.{End, Branch};
 ghost use Rattle.branch_tree.specs.Begun.{begun_on, grown, built};
 ghost use Rattle.branch_tree.specs.Walk.{IsWhole};
 
@@ -10,7 +11,7 @@ use crate::entry::Entry;
 use crate::tree::{customer_list, site_list};
 use dual_value::Duals;
 use instance_store::{Instance, NoMemory};
-use location_terms::{CustId, SiteId};
+use location_terms::{CustId, SiteId, Split};
 use std::alloc::Global;
 use std::marker::Model;
 
@@ -50,28 +51,15 @@ impl Builder {
         })
     }
 
-    /// Adds a split on a site; its closed child comes next. It fails only where memory runs out, and
-    /// then changes nothing.
-    pub fn split_site(&mut self, site: SiteId) -> Result<(), NoMemory>
-        requires site { Contains self.old.sites site }
+    /// Adds a split; its first child comes next. It fails only where memory runs out, and then changes
+    /// nothing.
+    pub fn split(&mut self, split: Split) -> Result<(), NoMemory>
+        requires split { IsSplitAmong self.old.sites self.old.customers split }
         requires few { length self.old.entries + 1 < 2 ^ 32 }
-        ensures ok { OnOk result (self.new ≡ grown self.old (SiteSplit site)) }
+        ensures ok { OnOk result (self.new ≡ grown self.old (Branch split)) }
         ensures err { OnErr result (self.new ≡ self.old) }
     {
-        self.nodes.push(Entry::SiteSplit(site))?;
-        Ok(())
-    }
-
-    /// Adds a split on a lane; its child in which the lane is not used comes next. It fails only where
-    /// memory runs out, and then changes nothing.
-    pub fn split_lane(&mut self, site: SiteId, cust: CustId) -> Result<(), NoMemory>
-        requires site { Contains self.old.sites site }
-        requires customer { Contains self.old.customers cust }
-        requires few { length self.old.entries + 1 < 2 ^ 32 }
-        ensures ok { OnOk result (self.new ≡ grown self.old (LaneSplit site cust)) }
-        ensures err { OnErr result (self.new ≡ self.old) }
-    {
-        self.nodes.push(Entry::LaneSplit(site, cust))?;
+        self.nodes.push(Entry::Branch(split))?;
         Ok(())
     }
 

@@ -1,27 +1,25 @@
 //! The tree that grows from one leaf, as a search works it.
-ghost use Rattle.std.specs.Prelude.{◌≡◌, ◌+◌, ◌-◌, ◌^◌, ◌<◌, ◌↔◌, IfOk, OnErr, OnOk, Some, IsTrue, length, option_map};
+ghost use Rattle.std.specs.Prelude.{[], ◌∷◌, ◌++◌, ◌≡◌, ◌+◌, ◌-◌, ◌^◌, ◌<◌, ◌↔◌, All, IfOk, OnErr, OnOk, Some, IsTrue, length, option_map, reverse};
+ghost use Rattle.location_terms.specs.Split.{second_step, IsSplitAmong};
 ghost use Rattle.location_terms.specs.Tree.{Leaf, HasLists, nodes_of};
-ghost use Rattle.branch_tree.specs.Preorder.{IsSound};
-ghost use Rattle.branch_tree.specs.Growing.{entry_of, growing_from, leaf_at_work, worked, split_in_two};
+ghost use Rattle.branch_tree.specs.Preorder.{IsSound, flat};
+ghost use Rattle.branch_tree.specs.Growing.{growing_from, leaf_at_work, worked, split_in_two};
 
 use crate::entry::Entry;
 use crate::open_split::{OpenSplit, next_first};
-use crate::split::second_step;
-use crate::tree::{customer_list, site_list};
-use crate::{Split, Tree};
 use dual_value::{Duals, Path};
 use instance_store::{Instance, NoMemory};
-use location_terms::{CustId, SiteId};
+use location_terms::Split;
 use std::alloc::Global;
 use std::marker::Model;
 
 /// A tree that grows from one leaf, somewhere in a tree of boxes. The leaf at work is the last one in
 /// preorder that isn't done: it is given duals, split in two, or done with. So a split's second child
 /// is worked before its first.
-#[derive(Debug, Drop)]
-pub struct Growth {
-    sites: Vec<SiteId>,
-    customers: Vec<CustId>,
+#[derive(Drop)]
+pub struct Growth<'a> {
+    // Whose ids the tree stands on.
+    inst: &'a Instance,
     // To the leaf at work, and to the tree's root once every leaf is done.
     path: Path,
     // The splits above the leaf at work, from the tree's root down.
@@ -33,7 +31,7 @@ pub struct Growth {
     nodes: u32,
 }
 
-impl Model for Growth {
+impl<'a> Model for Growth<'a> {
     ghost use Rattle.std.specs.Prelude.{◌++◌, count_by};
     ghost use Rattle.branch_tree.specs.Growing.{Growing, growing_code};
 
@@ -42,31 +40,34 @@ impl Model for Growth {
     ghost coded = { growing_code };
 
     ghost use Rattle.std.specs.Vec.{vec_capacity};
+    ghost use Rattle.location_terms.specs.Instance.{site_ids, customer_ids};
     ghost use Rattle.branch_tree.specs.Preorder.{tree_from};
     ghost use Rattle.branch_tree.specs.Leaf.{is_end};
     ghost use Rattle.branch_tree.specs.OpenSplits.{entries_above, ends_of, nodes_kept, base_of, IsKept};
 
     ghost view = { λ a. record {
-      tree = tree_from (a.sites.items, (a.customers.items, nodes_kept a.above.items a.work a.done.items));
+      tree = tree_from (site_ids a.inst.now, (customer_ids a.inst.now, nodes_kept a.above.items a.work a.done.items));
       base = base_of a.path a.above.items;
       left = count_by is_end (entries_above a.above.items ++ ends_of a.work);
     } };
 
-    ghost invariant = { λ a. IsKept a.sites.items a.customers.items a.path a.above.items a.work a.done.items (vec_capacity a.done) a.nodes };
+    ghost invariant = { λ a. IsKept (site_ids a.inst.now) (customer_ids a.inst.now) a.path a.above.items a.work a.done.items (vec_capacity a.done) a.nodes };
 }
 
-impl Growth {
+impl<'a> Growth<'a> {
     /// One leaf with these duals, in the box of this path. It fails only where memory runs out.
-    pub fn of(alloc: Global, inst: &Instance, path: Path, duals: Duals) -> Result<Growth, NoMemory>
+    pub fn of(
+        alloc: Global,
+        inst: &'a Instance,
+        path: Path,
+        duals: Duals,
+    ) -> Result<Growth<'a>, NoMemory>
         requires { HasLists (length inst.now.sites) (length inst.now.customers) duals }
         ensures { IfOk result (λ g. g ≡ growing_from inst.now path duals) }
     {
-        let sites = site_list(alloc, inst)?;
-        let customers = customer_list(alloc, inst)?;
         let done = Vec::with_capacity(alloc, 1)?;
         Ok(Growth {
-            sites,
-            customers,
+            inst,
             path,
             above: Vec::new(alloc),
             work: Some(duals),
@@ -121,7 +122,7 @@ impl Growth {
     /// only where memory runs out, and then changes nothing.
     pub fn split(&mut self, split: Split, first: Duals, second: Duals) -> Result<(), NoMemory>
         requires left { 0 < self.old.left }
-        requires split { IsSound self.old.tree.sites self.old.tree.customers (entry_of split) }
+        requires split { IsSplitAmong self.old.tree.sites self.old.tree.customers split }
         requires first { HasLists (length self.old.tree.sites) (length self.old.tree.customers) first }
         requires second { HasLists (length self.old.tree.sites) (length self.old.tree.customers) second }
         requires few { nodes_of self.old.tree + 2 < 2 ^ 32 }
@@ -131,7 +132,7 @@ impl Growth {
         self.done
             .reserve(self.nodes as usize + 2 - self.done.len())?;
         self.above.reserve(1)?;
-        self.path.push(second_step(&split))?;
+        enter_second(&mut self.path, &split)?;
         self.above.push_reserved(OpenSplit {
             split,
             first: Some(first),
@@ -153,16 +154,20 @@ impl Growth {
         self.work = next_first(&mut self.above, &mut self.path, &mut self.done);
     }
 
-    /// The tree as it stands, also where leaves are left.
-    pub fn into_tree(self) -> Tree
-        ensures { result ≡ self.tree }
+    // The nodes of the tree, whose leaves are all done, the last one in preorder first.
+    pub(crate) fn into_nodes(self) -> Vec<Entry>
+        requires { self.left ≡ 0 }
+        ensures nodes { reverse result.items ≡ flat self.entry.tree.root }
+        ensures sound { All (IsSound self.entry.tree.sites self.entry.tree.customers) (reverse result.items) }
     {
-        let mut growth = self;
-        while !growth.is_done() {
-            growth.finish();
-        }
-        let mut nodes = growth.done;
-        nodes.reverse();
-        Tree::of_nodes(growth.sites, growth.customers, nodes)
+        self.done
     }
+}
+
+// The path goes on to the second child of a split.
+fn enter_second(path: &mut Path, split: &Split) -> Result<(), NoMemory>
+    ensures ok { OnOk result (path.new ≡ path.old ++ second_step split.now ∷ []) }
+    ensures err { OnErr result (path.new ≡ path.old) }
+{
+    path.push(split.second_step())
 }

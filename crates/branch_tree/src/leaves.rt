@@ -104,7 +104,7 @@ fn is_end(entry: &Entry) -> bool
 {
     match entry {
         Entry::End(_) => true,
-        _ => false,
+        Entry::Branch(_) => false,
     }
 }
 
@@ -114,12 +114,7 @@ fn step_below(entry: &Entry, done: usize) -> Option<Decision>
 {
     match entry {
         Entry::End(_) => None,
-        Entry::SiteSplit(site) => chosen(Decision::Closed(*site), Decision::Opened(*site), done),
-        Entry::LaneSplit(site, cust) => chosen(
-            Decision::No(*site, *cust),
-            Decision::Yes(*site, *cust),
-            done,
-        ),
+        Entry::Branch(split) => chosen(split.first_step(), split.second_step(), done),
     }
 }
 
@@ -139,6 +134,6 @@ fn done_before(entry: &Entry, done: usize) -> usize
 {
     match entry {
         Entry::End(_) => done + 1,
-        _ => done.saturating_sub(1),
+        Entry::Branch(_) => done.saturating_sub(1),
     }
 }

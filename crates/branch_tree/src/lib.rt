@@ -5,13 +5,14 @@
 
 mod bounds;
 mod builder;
+mod course;
 mod entry;
 mod growth;
 mod laws;
 mod leaves;
 mod node;
 mod open_split;
-mod split;
+mod renewal;
 mod tree;
 mod walk;
 
@@ -19,10 +20,11 @@ pub use builder::Builder;
 pub use dual_value::{Decision, Duals, Path};
 pub use growth::Growth;
 pub use laws::closes_against_its_low_end;
+pub use location_terms::Split;
 pub use node::NodeKind;
-pub use split::Split;
+pub use renewal::Renewal;
 pub use tree::Tree;
-pub use walk::pass_leaf;
+pub use walk::{LeafWalk, pass_leaf};
 
 #[cfg(test)]
 mod tests;

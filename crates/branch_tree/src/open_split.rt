@@ -1,14 +1,15 @@
 //! The splits above the leaf at work.
-ghost use Rattle.std.specs.Prelude.{◌≡◌, ◌≤◌, ◌++◌, None, [], count_by, length};
+ghost use Rattle.std.specs.Prelude.{◌≡◌, ◌<◌, ◌≤◌, ◌++◌, ◌∷◌, None, [], count_by, length};
 ghost use Rattle.std.specs.Vec.{vec_capacity};
+ghost use Rattle.location_terms.specs.declared.decision.Decision.{Decision};
 ghost use Rattle.location_terms.specs.Box.{Path as Decisions};
+ghost use Rattle.location_terms.specs.Split.{first_step};
 ghost use Rattle.branch_tree.specs.Leaf.{is_end};
 ghost use Rattle.branch_tree.specs.OpenSplits.{entries_above, steps_above, ends_of, nodes_kept};
 
-use crate::Split;
 use crate::entry::Entry;
-use crate::split::{entry_of, first_step};
 use dual_value::{Duals, Path};
+use location_terms::Split;
 
 // A split one of whose children the leaf at work is below.
 #[derive(Debug, Drop)]
@@ -36,15 +37,23 @@ pub(crate) fn next_first(
     while let Some(OpenSplit { split, first }) = above.pop() {
         match first {
             Some(first) => {
-                path.replace_last(first_step(&split));
+                turn_to_first(path, &split);
                 above.push_reserved(OpenSplit { split, first: None });
                 return Some(first);
             }
             None => {
                 let _ = path.pop();
-                done.push_reserved(entry_of(&split));
+                done.push_reserved(Entry::Branch(split));
             }
         }
     }
     None
+}
+
+// From a split's second child to its first.
+fn turn_to_first(path: &mut Path, split: &Split)
+    requires { 0 < length path.old }
+    ensures { (front : Decisions) (last : Decision) → path.old ≡ front ++ last ∷ [] → path.new ≡ front ++ first_step split.now ∷ [] }
+{
+    path.replace_last(split.first_step());
 }

@@ -1,23 +1,27 @@
-ghost use Rattle.std.specs.Prelude.{◌≡◌, ◌+◌, ◌<◌, ◌≤◌, Contains, IfOk};
+ghost use Rattle.std.specs.Prelude.{◌≡◌, ◌<◌, Contains, IfOk};
 ghost use Rattle.location_terms.specs.Instance.{site_ids};
 ghost use Rattle.location_terms.specs.Fit.{DualsFit};
 ghost use Rattle.location_terms.specs.Tree.{StandsOn, nodes_of};
 
 use super::*;
-use dual_value::fits;
+use dual_value::{BoxBounds, fits};
 use example_instances::ring;
 use instance_store::{Instance, NoMemory};
 use location_terms::SiteId;
 use std::alloc::Global;
 use std::test::Fail;
 
-// Duals of this scale, with these values of the customers and no other price, which fit.
-fn duals(alloc: Global, inst: &Instance, q: u32, v: [i128; 3]) -> Result<Duals, Fail>
+const CLOSED: [i128; 3] = [2_000_000, 2_000_000, 0];
+
+const OPENED: [i128; 3] = [0, 0, 2_000_000];
+
+// Duals of scale 1, with these values of the customers and no other price, which fit.
+fn duals(alloc: Global, inst: &Instance, v: [i128; 3]) -> Result<Duals, Fail>
     ensures { IfOk result (DualsFit inst.now) }
 {
     let values = Vec::from_array(alloc, v)?;
     let prices = Vec::from_array(alloc, [0; 3])?;
-    let duals = Duals::from_lists(q, 0, values, prices);
+    let duals = Duals::from_lists(1, 0, values, prices);
     if inst.custs() != duals.customers() || inst.sites() != duals.sites() {
         return Err(Fail::new("an instance of another size"));
     }
@@ -25,50 +29,54 @@ fn duals(alloc: Global, inst: &Instance, q: u32, v: [i128; 3]) -> Result<Duals, 
     Ok(duals)
 }
 
-// A tree of one leaf.
-fn leaf(alloc: Global, inst: &Instance, q: u32, v: [i128; 3]) -> Result<Tree, Fail>
-    ensures stands { IfOk result (λ t. StandsOn t inst.now) }
-    ensures one { IfOk result (λ t. nodes_of t ≡ 1) }
-{
-    let duals = duals(alloc, inst, q, v)?;
-    Ok(Tree::leaf(alloc, inst, duals)?)
-}
-
-// A split on the first site.
-fn split(inst: &Instance, closed: Tree, opened: Tree) -> Result<Tree, Fail>
-    requires closed { StandsOn closed inst.now }
-    requires opened { StandsOn opened inst.now }
-    requires few { nodes_of closed + nodes_of opened ≤ 100 }
-    ensures stands { IfOk result (λ t. StandsOn t inst.now) }
-    ensures nodes { IfOk result (λ t. nodes_of t ≡ nodes_of closed + nodes_of opened + 1) }
+// The first site.
+fn first_site(inst: &Instance) -> Result<SiteId, Fail>
+    ensures { IfOk result (Contains (site_ids inst.now)) }
 {
     let site = SiteId::new(1);
     if inst.site_at(site).is_none() {
         return Err(Fail::new("no such site"));
     }
-    Ok(Tree::on_site(site, closed, opened)?)
+    Ok(site)
 }
 
-// The split on the first site, whose leaves both show 4 units.
-fn example_tree(alloc: Global, inst: &Instance) -> Result<Tree, Fail>
+// A split whose leaves have these duals.
+fn forked(
+    alloc: Global,
+    inst: &Instance,
+    site: SiteId,
+    closed: Duals,
+    opened: Duals,
+) -> Result<Tree, NoMemory>
+    requires site { Contains (site_ids inst.now) site }
+    requires closed { DualsFit inst.now closed }
+    requires opened { DualsFit inst.now opened }
     ensures stands { IfOk result (λ t. StandsOn t inst.now) }
     ensures nodes { IfOk result (λ t. nodes_of t ≡ 3) }
 {
-    let closed = leaf(alloc, inst, 1, [2_000_000, 2_000_000, 0])?;
-    let opened = leaf(alloc, inst, 1, [0, 0, 2_000_000])?;
-    split(inst, closed, opened)
+    let first = Tree::leaf(alloc, inst, closed)?;
+    let second = Tree::leaf(alloc, inst, opened)?;
+    Tree::fork(Split::Site(site), first, second)
 }
 
-// The example with a second split on the same site in its first child, whose second child's box no
-// plan is in: its duals show that at scale 0.
-fn decided_tree(alloc: Global, inst: &Instance) -> Result<Tree, Fail>
-    ensures { IfOk result (λ t. StandsOn t inst.now) }
+// The same tree, made node by node.
+fn built(
+    alloc: Global,
+    inst: &Instance,
+    site: SiteId,
+    closed: Duals,
+    opened: Duals,
+) -> Result<Tree, NoMemory>
+    requires site { Contains (site_ids inst.now) site }
+    requires closed { DualsFit inst.now closed }
+    requires opened { DualsFit inst.now opened }
+    ensures stands { IfOk result (λ t. StandsOn t inst.now) }
 {
-    let closed = leaf(alloc, inst, 1, [2_000_000, 2_000_000, 0])?;
-    let torn = leaf(alloc, inst, 0, [1, 0, 0])?;
-    let again = split(inst, closed, torn)?;
-    let opened = leaf(alloc, inst, 1, [0, 0, 2_000_000])?;
-    split(inst, again, opened)
+    let mut builder = Builder::on(alloc, inst)?;
+    builder.split(Split::Site(site))?;
+    builder.leaf(closed)?;
+    builder.leaf(opened)?;
+    Ok(builder.finish())
 }
 
 // The step to a child of the split on the first site.
@@ -81,290 +89,202 @@ fn step_to(opened: bool) -> Decision {
     }
 }
 
-// Whether the leaves are those of a split on the first site twice, in its first child again.
-fn has_decided_paths(tree: &Tree) -> bool {
-    has_path(tree, 0, step_to(false), Some(step_to(false)))
-        && has_path(tree, 1, step_to(false), Some(step_to(true)))
-        && has_path(tree, 2, step_to(true), None)
-        && has_depth(tree, 1, 2)
-        && has_step(tree, 1, 0, step_to(false))
-        && has_step(tree, 1, 1, step_to(true))
-}
-
-// Whether the tree has these three nodes and two leaves.
-fn has_nodes(tree: &Tree, nodes: [NodeKind; 3]) -> bool {
+// Whether the tree is a split on the first site.
+fn is_split(tree: &Tree) -> bool {
     tree.nodes() == 3
         && tree.leaf_count() == 2
-        && tree.node(0) == nodes[0]
-        && tree.node(1) == nodes[1]
-        && tree.node(2) == nodes[2]
+        && tree.node(0) == NodeKind::Split(Split::Site(SiteId::new(1)))
+        && tree.node(1) == NodeKind::Leaf
+        && tree.duals(0).is_none()
+        && tree.duals(1).is_some()
 }
 
-// Whether the duals of a leaf have these values.
-fn has_values(tree: &Tree, k: usize, q: u32, v: [i128; 3]) -> bool {
+// Whether leaf `k` is this child, with these values.
+fn is_child(tree: &Tree, k: usize, opened: bool, v: &[i128]) -> bool {
     k < tree.leaf_count()
-        && tree.leaf_duals(k).q() == q
-        && tree.leaf_duals(k).values() == v.as_slice()
+        && tree.leaf_duals(k).values() == v
+        && tree.leaf_depth(k) == 1
+        && tree.leaf_step(k, 0) == step_to(opened)
 }
 
-// Whether the node at a place is a leaf whose duals have these values.
-fn ends_with(tree: &Tree, at: u32, v: [i128; 3]) -> bool {
-    match tree.duals(at) {
-        Some(duals) => duals.values() == v.as_slice(),
-        None => false,
+// Whether a walk over the leaves comes to the leaves in order.
+fn walks(tree: &Tree) -> Result<bool, NoMemory> {
+    let mut walk = tree.leaves()?;
+    for k in 0..tree.leaf_count() {
+        if walk.is_done() {
+            return Ok(false);
+        }
+        let (path, duals) = walk.leaf();
+        if path.as_slice() != tree.leaf_path(k)?.as_slice() || duals.q() != tree.leaf_duals(k).q() {
+            return Ok(false);
+        }
+        walk.pass()?;
     }
+    Ok(walk.is_done())
 }
 
-// Whether the path has these one or two steps.
-fn has_steps(path: &Path, first: Decision, second: Option<Decision>) -> bool {
-    match second {
-        Some(second) => path.steps() == 2 && path.step(0) == first && path.step(1) == second,
-        None => path.steps() == 1 && path.step(0) == first,
-    }
-}
-
-// Whether the path to a leaf has these steps.
-fn has_path(tree: &Tree, k: usize, first: Decision, second: Option<Decision>) -> bool {
-    if k >= tree.leaf_count() {
-        return false;
-    }
-    match tree.leaf_path(k) {
-        Ok(path) => has_steps(&path, first, second),
-        Err(_) => false,
-    }
-}
-
-fn has_depth(tree: &Tree, k: usize, depth: usize) -> bool {
-    k < tree.leaf_count() && tree.leaf_depth(k) == depth
-}
-
-fn has_step(tree: &Tree, k: usize, at: usize, step: Decision) -> bool {
-    k < tree.leaf_count() && at < tree.leaf_depth(k) && tree.leaf_step(k, at) == step
-}
-
-// Whether the leaves close against the low end, which the tree shows.
-fn has_low(tree: &Tree, inst: &Instance, low: u64) -> Result<bool, NoMemory>
+// Whether the tree is accepted up to 4 units and no further, by bounds of its own and by lent ones.
+fn closes_up_to_4(alloc: Global, tree: &Tree, inst: &Instance) -> Result<bool, NoMemory>
     requires { StandsOn tree.now inst.now }
 {
-    let closed = tree.accepts(inst, Some(low))?;
-    if !closed {
-        return Ok(false);
-    }
-    Ok(tree.low(inst)? == low)
-}
-
-// The same tree as the example, made node by node.
-fn built(alloc: Global, inst: &Instance) -> Result<Tree, Fail> {
-    let closed = duals(alloc, inst, 1, [2_000_000, 2_000_000, 0])?;
-    let opened = duals(alloc, inst, 1, [0, 0, 2_000_000])?;
-    let site = SiteId::new(1);
-    if inst.site_at(site).is_none() {
-        return Err(Fail::new("no such site"));
-    }
-    Ok(built_of(alloc, inst, site, closed, opened)?)
-}
-
-fn built_of(
-    alloc: Global,
-    inst: &Instance,
-    site: SiteId,
-    closed: Duals,
-    opened: Duals,
-) -> Result<Tree, NoMemory>
-    requires site { Contains (site_ids inst.now) site }
-    requires closed { DualsFit inst.now closed }
-    requires opened { DualsFit inst.now opened }
-{
-    let mut builder = Builder::on(alloc, inst)?;
-    builder.split_site(site)?;
-    builder.leaf(closed)?;
-    builder.leaf(opened)?;
-    Ok(builder.finish())
-}
-
-// Whether the tree is the split on the first site, by its nodes and by its leaves.
-fn has_example_nodes(tree: &Tree) -> bool {
-    has_nodes(
-        tree,
-        [
-            NodeKind::Site(SiteId::new(1)),
-            NodeKind::Leaf,
-            NodeKind::Leaf,
-        ],
-    ) && has_values(tree, 0, 1, [2_000_000, 2_000_000, 0])
-        && has_values(tree, 1, 1, [0, 0, 2_000_000])
-}
-
-fn has_example_duals(tree: &Tree) -> bool {
-    tree.duals(0).is_none()
-        && tree.duals(3).is_none()
-        && ends_with(tree, 1, [2_000_000, 2_000_000, 0])
-        && ends_with(tree, 2, [0, 0, 2_000_000])
-}
-
-// Whether a leaf is this child.
-fn is_child(tree: &Tree, k: usize, opened: bool) -> bool {
-    has_path(tree, k, step_to(opened), None)
-        && has_depth(tree, k, 1)
-        && has_step(tree, k, 0, step_to(opened))
-}
-
-fn has_example_paths(tree: &Tree) -> bool {
-    is_child(tree, 0, false) && is_child(tree, 1, true)
-}
-
-// Whether the tree is accepted against this low end, or isn't.
-fn accepts(tree: &Tree, inst: &Instance, low: u64, expected: bool) -> bool
-    requires { StandsOn tree.now inst.now }
-{
-    match tree.accepts(inst, Some(low)) {
-        Ok(accepted) => accepted == expected,
-        Err(_) => false,
-    }
-}
-
-fn shows_low(tree: &Tree, inst: &Instance, low: u64) -> bool
-    requires { StandsOn tree.now inst.now }
-{
-    match has_low(tree, inst, low) {
-        Ok(holds) => holds,
-        Err(_) => false,
-    }
-}
-
-// Whether the tree closes up to 4 units, its low end, and no further.
-fn closes_up_to_4(tree: &Tree, inst: &Instance) -> bool
-    requires { StandsOn tree.now inst.now }
-{
-    accepts(tree, inst, 4_000_000, true) && accepts(tree, inst, 4_000_001, false)
-}
-
-fn shows_the_example(alloc: Global, inst: &Instance) -> Result<bool, Fail> {
-    let tree = example_tree(alloc, inst)?;
+    let mut bounds = BoxBounds::of(alloc, inst);
     Ok(
-        has_example_nodes(&tree)
-            && has_example_duals(&tree)
-            && has_example_paths(&tree)
-            && closes_up_to_4(&tree, inst)
-            && shows_low(&tree, inst, 4_000_000),
+        tree.accepts(inst, Some(4_000_000))?
+            && !tree.accepts_by(inst, &mut bounds, Some(4_000_001))?
+            && shows_4(tree, inst, &mut bounds)?,
     )
 }
 
-fn is_built_node_by_node(alloc: Global, inst: &Instance) -> Result<bool, Fail> {
-    let tree = built(alloc, inst)?;
-    Ok(has_example_nodes(&tree))
-}
-
-// Whether the first leaf of the tree is replaced by the part, so that the site is decided twice.
-fn is_replaced(mut tree: Tree, part: Tree) -> bool
-    requires tree { nodes_of tree ≡ 3 }
-    requires part { nodes_of part ≡ 3 }
-    requires sites { part.sites ≡ tree.sites }
-    requires customers { part.customers ≡ tree.customers }
+// Whether the tree shows that no plan costs less than 4 units.
+fn shows_4(tree: &Tree, inst: &Instance, bounds: &mut BoxBounds<'_>) -> Result<bool, NoMemory>
+    requires stands { StandsOn tree.now inst.now }
+    requires bounds { bounds.old ≡ inst.now }
 {
-    tree.leaf_count() == 2
-        && tree.replace_leaf(0, part).is_ok()
-        && tree.nodes() == 5
+    let closed = tree.accepts_by(inst, bounds, Some(4_000_000))?;
+    if !closed {
+        return Ok(false);
+    }
+    Ok(tree.low(inst)? == 4_000_000 && tree.low_by(inst, bounds)? == 4_000_000)
+}
+
+fn shows_the_example(alloc: Global, inst: &Instance) -> Result<bool, Fail> {
+    let site = first_site(inst)?;
+    let closed = duals(alloc, inst, CLOSED)?;
+    let opened = duals(alloc, inst, OPENED)?;
+    let tree = built(alloc, inst, site, closed, opened)?;
+    Ok(
+        is_split(&tree)
+            && is_child(&tree, 0, false, &CLOSED)
+            && is_child(&tree, 1, true, &OPENED)
+            && walks(&tree)?
+            && closes_up_to_4(alloc, &tree, inst)?
+            && replaces(alloc, inst, tree)?,
+    )
+}
+
+// Whether a leaf of zeros takes the place of the first leaf.
+fn replaces(alloc: Global, inst: &Instance, mut tree: Tree) -> Result<bool, NoMemory>
+    requires { StandsOn tree inst.now }
+{
+    let part = Tree::root(alloc, inst)?;
+    if tree.nodes() != 3 || tree.leaf_count() != 2 {
+        return Ok(false);
+    }
+    tree.replace_leaf(0, part)?;
+    Ok(is_child(&tree, 0, false, &[0; 3]))
+}
+
+// The renewal of a tree whose first leaf stays.
+fn at_second(tree: Tree) -> Result<Renewal, NoMemory>
+    ensures { IfOk result (λ r. r.tree ≡ tree) }
+{
+    let renewal = Renewal::of(tree)?;
+    if renewal.is_done() {
+        return Ok(renewal);
+    }
+    renewal.stay()
+}
+
+// Whether the leaf at work is this child of a split on the first site, below another step.
+fn works_on(growth: &Growth<'_>, opened: bool, v: &[i128]) -> bool
+    requires { 0 < growth.now.left }
+{
+    let path = growth.path();
+    path.steps() == 2 && path.step(1) == step_to(opened) && growth.duals().values() == v
+}
+
+// The example's tree, as it grows from a leaf. The answer says whether each leaf was at work in its turn.
+fn grown<'a>(
+    alloc: Global,
+    inst: &'a Instance,
+    site: SiteId,
+    path: &Path,
+    closed: Duals,
+    opened: Duals,
+) -> Result<(bool, Growth<'a>), NoMemory>
+    requires site { Contains (site_ids inst.now) site }
+    requires closed { DualsFit inst.now closed }
+    requires opened { DualsFit inst.now opened }
+    ensures done { IfOk result (λ r. r.1.left ≡ 0) }
+    ensures nodes { IfOk result (λ r. nodes_of r.1.tree ≡ 3) }
+    ensures stands { IfOk result (λ r. StandsOn r.1.tree inst.now) }
+{
+    let mut growth = Growth::of(alloc, inst, path.copied()?, opened)?;
+    growth.split(Split::Site(site), closed.copied()?, closed)?;
+    let second = works_on(&growth, true, &CLOSED);
+    growth.finish();
+    let first = works_on(&growth, false, &CLOSED);
+    growth.finish();
+    Ok((first && second, growth))
+}
+
+// Whether the last leaf of the example was split again.
+fn is_renewed(tree: &Tree) -> bool {
+    tree.nodes() == 5
         && tree.leaf_count() == 3
-        && has_decided_paths(&tree)
+        && tree.leaf_depth(0) == 1
+        && tree.leaf_depth(2) == 2
+        && tree.leaf_step(2, 1) == step_to(true)
+        && tree.leaf_duals(1).values() == CLOSED.as_slice()
 }
 
-fn replaces_a_leaf(alloc: Global, inst: &Instance) -> Result<bool, Fail> {
-    let tree = example_tree(alloc, inst)?;
-    let part = example_tree(alloc, inst)?;
-    Ok(is_replaced(tree, part))
+// Whether a split is seen where a tree grew in the place of the tree's last leaf.
+fn renews(
+    alloc: Global,
+    inst: &Instance,
+    site: SiteId,
+    tree: Tree,
+    closed: Duals,
+    opened: Duals,
+) -> Result<bool, NoMemory>
+    requires site { Contains (site_ids inst.now) site }
+    requires stands { StandsOn tree inst.now }
+    requires nodes { nodes_of tree ≡ 3 }
+    requires closed { DualsFit inst.now closed }
+    requires opened { DualsFit inst.now opened }
+{
+    let renewal = at_second(tree)?;
+    if renewal.is_done() {
+        return Ok(false);
+    }
+    let (worked, growth) = grown(alloc, inst, site, renewal.leaf().0, closed, opened)?;
+    let renewed = renewal.give(growth)?.finish()?;
+    Ok(worked && is_renewed(&renewed) && walks(&renewed)?)
 }
 
-// Whether a split on a site that is decided is accepted.
-fn accepts_a_decided_site(alloc: Global, inst: &Instance) -> Result<bool, Fail> {
-    let tree = decided_tree(alloc, inst)?;
-    Ok(has_decided_paths(&tree) && closes_up_to_4(&tree, inst))
+fn renews_the_example(alloc: Global, inst: &Instance) -> Result<bool, Fail> {
+    let site = first_site(inst)?;
+    let closed = duals(alloc, inst, CLOSED)?;
+    let opened = duals(alloc, inst, OPENED)?;
+    let tree = forked(alloc, inst, site, closed.copied()?, opened.copied()?)?;
+    Ok(renews(alloc, inst, site, tree, closed, opened)?)
+}
+
+fn holds_of(alloc: Global, inst: &Instance) -> Result<bool, Fail> {
+    Ok(shows_the_example(alloc, inst)? && renews_the_example(alloc, inst)?)
 }
 
 #[test]
 fn trees_of_the_example(rt: HostRuntime) -> Result<(), Fail> {
     let alloc = rt.alloc();
     let inst = ring(alloc)?;
-    assert!(rt; shows_the_example(alloc, &inst)?);
-    assert!(rt; is_built_node_by_node(alloc, &inst)?);
-    assert!(rt; replaces_a_leaf(alloc, &inst)?);
-    assert!(rt; accepts_a_decided_site(alloc, &inst)?);
+    assert!(rt; holds_of(alloc, &inst)?);
     Ok(())
 }
 
-// Whether behind the leaf of this path the walk goes on at one with this one step.
-fn passes_to(path: &mut Path, step: Decision) -> bool {
-    pass_leaf(path) == Ok(true) && path.as_slice() == [step].as_slice()
-}
-
-fn passes_whole(path: &mut Path) -> bool {
-    pass_leaf(path) == Ok(false) && path.steps() == 0
-}
-
-fn passes_from(mut path: Path) -> bool {
-    passes_to(&mut path, Decision::Opened(SiteId::new(1))) && passes_whole(&mut path)
+// Whether behind the leaf of this path the walk goes on at the leaf of one step, which is the last.
+fn passes(mut path: Path) -> bool {
+    pass_leaf(&mut path) == Ok(true)
+        && path.as_slice() == [step_to(true)].as_slice()
+        && pass_leaf(&mut path) == Ok(false)
+        && path.steps() == 0
 }
 
 #[test]
 fn passes_from_leaf_to_leaf(rt: HostRuntime) -> Result<(), Fail> {
     let mut path = Path::root(rt.alloc());
-    path.push(Decision::Closed(SiteId::new(1)))?;
+    path.push(step_to(false))?;
     path.push(Decision::Opened(SiteId::new(2)))?;
-    assert!(rt; passes_from(path));
-    Ok(())
-}
-
-// Whether the leaf at work is this child of a split on the first site, and its duals have these values.
-fn works_on(growth: &Growth, opened: bool, v: [i128; 3]) -> bool
-    requires { 0 < growth.now.left }
-{
-    !growth.is_done()
-        && has_steps(growth.path(), step_to(opened), None)
-        && growth.duals().values() == v.as_slice()
-}
-
-// The example's tree, grown from a leaf whose duals are the last of these, as those of its children
-// before they are worked. The answer says whether each leaf was at work in its turn.
-fn grows(
-    alloc: Global,
-    inst: &Instance,
-    site: SiteId,
-    closed: Duals,
-    opened: Duals,
-    weak: Duals,
-) -> Result<bool, NoMemory>
-    requires site { Contains (site_ids inst.now) site }
-    requires closed { DualsFit inst.now closed }
-    requires opened { DualsFit inst.now opened }
-    requires weak { DualsFit inst.now weak }
-{
-    let again = weak.copied()?;
-    let mut growth = Growth::of(alloc, inst, Path::root(alloc), weak)?;
-    growth.split(Split::Site(site), again, opened)?;
-    let second = works_on(&growth, true, [0, 0, 2_000_000]);
-    growth.finish();
-    growth.set_duals(closed);
-    let first = works_on(&growth, false, [2_000_000, 2_000_000, 0]);
-    growth.finish();
-    let done = growth.is_done() && growth.nodes() == 3;
-    Ok(second && first && done && has_example_nodes(&growth.into_tree()))
-}
-
-fn grows_the_example(alloc: Global, inst: &Instance) -> Result<bool, Fail> {
-    let closed = duals(alloc, inst, 1, [2_000_000, 2_000_000, 0])?;
-    let opened = duals(alloc, inst, 1, [0, 0, 2_000_000])?;
-    let weak = duals(alloc, inst, 1, [0, 0, 0])?;
-    let site = SiteId::new(1);
-    if inst.site_at(site).is_none() {
-        return Err(Fail::new("no such site"));
-    }
-    Ok(grows(alloc, inst, site, closed, opened, weak)?)
-}
-
-#[test]
-fn grows_leaf_by_leaf(rt: HostRuntime) -> Result<(), Fail> {
-    let alloc = rt.alloc();
-    let inst = ring(alloc)?;
-    assert!(rt; grows_the_example(alloc, &inst)?);
+    assert!(rt; passes(path));
     Ok(())
 }

@@ -1,7 +1,8 @@
 //! A tree of boxes, kept as one list in preorder.
-ghost use Rattle.std.specs.Prelude.{[], ◌∷◌, ◌++◌, ◌≡◌, ◌+◌, ◌^◌, ◌<◌, ◌≤◌, ◌↔◌, All, Contains, None, Some, IfNone, IfOk, IfSome, IsTrue, OnErr, OnOk, length, map, slice_get};
+ghost use Rattle.std.specs.Prelude.{[], ◌∷◌, ◌++◌, ◌≡◌, ◌+◌, ◌^◌, ◌<◌, ◌≤◌, ◌↔◌, All, None, Some, IfNone, IfOk, IfSome, IsTrue, OnErr, OnOk, length, map, slice_get};
 ghost use Rattle.location_terms.specs.Instance.{site_ids, customer_ids};
 ghost use Rattle.location_terms.specs.Optimal.{IsLowEnd, IsImpossible};
+ghost use Rattle.location_terms.specs.Split.{IsSplitAmong};
 ghost use Rattle.location_terms.specs.Bound.{bound_of};
 ghost use Rattle.location_terms.specs.Fit.{DualsFit, BoundCloses};
 ghost use Rattle.location_terms.specs.Tree.{IsTree, StandsOn, AllClose, leaves_of, low_of, nodes_of};
@@ -9,15 +10,15 @@ ghost use Rattle.dual_value.specs.Zeros.{zeros};
 ghost use Rattle.branch_tree.specs.Leaf.{replaced_in};
 ghost use Rattle.branch_tree.specs.Preorder.{IsStored, tree_from};
 ghost use Rattle.std.specs.Option.{option_copied};
-ghost use Rattle.branch_tree.specs.Made.{leaf_of, split_on_site, split_on_lane, nodes_shown, entry_shown, duals_at};
+ghost use Rattle.branch_tree.specs.Made.{leaf_of, forked, nodes_shown, entry_shown, duals_at};
 
-use crate::NodeKind;
+use crate::bounds::{all_close, least_low};
 use crate::entry::Entry;
 use crate::leaves::{depth_after, leaf_place, path_after, replace_at, step_after};
-use crate::walk::{all_close, least_low};
-use dual_value::{Decision, Duals, Path};
+use crate::{LeafWalk, NodeKind};
+use dual_value::{BoxBounds, Decision, Duals, Path};
 use instance_store::{Instance, NoMemory};
-use location_terms::{CustId, SiteId};
+use location_terms::{CustId, SiteId, Split};
 use std::alloc::Global;
 use std::marker::Model;
 
@@ -68,37 +69,19 @@ impl Tree {
         })
     }
 
-    /// A split on a site, with the tree of the box in which it is closed and that of the box in
-    /// which it is opened. It fails only where memory runs out.
-    pub fn on_site(site: SiteId, closed: Tree, opened: Tree) -> Result<Tree, NoMemory>
-        requires sites { opened.sites ≡ closed.sites }
-        requires customers { opened.customers ≡ closed.customers }
-        requires site { Contains closed.sites site }
-        requires few { nodes_of closed + nodes_of opened + 1 < 2 ^ 32 }
-        ensures { IfOk result (λ t. t ≡ split_on_site site closed opened) }
+    /// A split, with the trees of the boxes of its first and its second child. It fails only where memory
+    /// runs out.
+    pub fn fork(split: Split, first: Tree, second: Tree) -> Result<Tree, NoMemory>
+        requires sites { second.sites ≡ first.sites }
+        requires customers { second.customers ≡ first.customers }
+        requires split { IsSplitAmong first.sites first.customers split }
+        requires few { nodes_of first + nodes_of second + 1 < 2 ^ 32 }
+        ensures { IfOk result (λ t. t ≡ forked split first second) }
     {
-        let nodes = joined(Entry::SiteSplit(site), closed.nodes, opened.nodes)?;
+        let nodes = joined(split, first.nodes, second.nodes)?;
         Ok(Tree {
-            sites: closed.sites,
-            customers: closed.customers,
-            nodes,
-        })
-    }
-
-    /// A split on a lane, with the tree of the box in which it is not used and that of the box in
-    /// which it is. It fails only where memory runs out.
-    pub fn on_lane(site: SiteId, cust: CustId, no: Tree, yes: Tree) -> Result<Tree, NoMemory>
-        requires sites { yes.sites ≡ no.sites }
-        requires customers { yes.customers ≡ no.customers }
-        requires site { Contains no.sites site }
-        requires customer { Contains no.customers cust }
-        requires few { nodes_of no + nodes_of yes + 1 < 2 ^ 32 }
-        ensures { IfOk result (λ t. t ≡ split_on_lane site cust no yes) }
-    {
-        let nodes = joined(Entry::LaneSplit(site, cust), no.nodes, yes.nodes)?;
-        Ok(Tree {
-            sites: no.sites,
-            customers: no.customers,
+            sites: first.sites,
+            customers: first.customers,
             nodes,
         })
     }
@@ -113,6 +96,14 @@ impl Tree {
             customers,
             nodes,
         }
+    }
+
+    // The ids of the sites and of the customers, and the nodes in preorder.
+    pub(crate) fn into_parts(self) -> (Vec<SiteId>, Vec<CustId>, Vec<Entry>)
+        ensures stored { IsStored result.0.items result.1.items result.2.items }
+        ensures same { tree_from (result.0.items, (result.1.items, result.2.items)) ≡ self }
+    {
+        (self.sites, self.customers, self.nodes)
     }
 
     /// How many nodes the tree has, leaves and splits.
@@ -206,6 +197,14 @@ impl Tree {
         }
     }
 
+    /// A walk over the leaves, with the first one at hand. It fails only where memory runs out.
+    pub fn leaves(&self) -> Result<LeafWalk<'_>, NoMemory>
+        ensures leaves { IfOk result (λ w. w ≡ leaves_of self.now) }
+        ensures tree { IsTree self.now }
+    {
+        LeafWalk::over(*self.nodes.allocator(), &self.nodes)
+    }
+
     /// Whether each leaf closes its box against the target, a cost in millionths, or without one. Where
     /// each does, no feasible plan costs less than the target; without a target there is none. It fails
     /// only where memory runs out.
@@ -215,8 +214,26 @@ impl Tree {
         ensures low_end { IfOk result (λ yes. IsTrue yes → IfSome target (IsLowEnd inst.now)) }
         ensures impossible { IfOk result (λ yes. IsTrue yes → IfNone target (IsImpossible inst.now)) }
     {
+        let mut bounds = BoxBounds::of(*self.nodes.allocator(), inst);
+        self.accepts_by(inst, &mut bounds, target)
+    }
+
+    /// The same by bounds that are lent, those of boxes of the instance.
+    pub fn accepts_by(
+        &self,
+        inst: &Instance,
+        bounds: &mut BoxBounds<'_>,
+        target: Option<u64>,
+    ) -> Result<bool, NoMemory>
+        requires stands { StandsOn self.now inst.now }
+        requires bounds { bounds.old ≡ inst.now }
+        ensures kept { bounds.new ≡ bounds.old }
+        ensures exact { IfOk result (λ yes. IsTrue yes ↔ AllClose inst.now self.now target) }
+        ensures low_end { IfOk result (λ yes. IsTrue yes → IfSome target (IsLowEnd inst.now)) }
+        ensures impossible { IfOk result (λ yes. IsTrue yes → IfNone target (IsImpossible inst.now)) }
+    {
         let _valid = inst.sites();
-        let yes = all_close(*self.nodes.allocator(), &self.nodes, inst, target)?;
+        let yes = all_close(self.leaves()?, inst, bounds, target)?;
         Ok(yes)
     }
 
@@ -229,8 +246,20 @@ impl Tree {
         ensures exact { IfOk result (λ low. low ≡ low_of inst.now self.now) }
         ensures low_end { All (λ l. l.1.q ≡ 0 → BoundCloses (bound_of inst.now l.0 l.1) 0 None) (leaves_of self.now) → IfOk result (IsLowEnd inst.now) }
     {
+        let mut bounds = BoxBounds::of(*self.nodes.allocator(), inst);
+        self.low_by(inst, &mut bounds)
+    }
+
+    /// The same by bounds that are lent, those of boxes of the instance.
+    pub fn low_by(&self, inst: &Instance, bounds: &mut BoxBounds<'_>) -> Result<u64, NoMemory>
+        requires fit { All (λ l. DualsFit inst.now l.1) (leaves_of self.now) }
+        requires bounds { bounds.old ≡ inst.now }
+        ensures kept { bounds.new ≡ bounds.old }
+        ensures exact { IfOk result (λ low. low ≡ low_of inst.now self.now) }
+        ensures low_end { All (λ l. l.1.q ≡ 0 → BoundCloses (bound_of inst.now l.0 l.1) 0 None) (leaves_of self.now) → IfOk result (IsLowEnd inst.now) }
+    {
         let _valid = inst.sites();
-        let low = least_low(*self.nodes.allocator(), &self.nodes, inst)?;
+        let low = least_low(self.leaves()?, bounds)?;
         Ok(low)
     }
 
@@ -254,8 +283,7 @@ fn shown(entry: &Entry) -> NodeKind
 {
     match entry {
         Entry::End(_) => NodeKind::Leaf,
-        Entry::SiteSplit(site) => NodeKind::Site(*site),
-        Entry::LaneSplit(site, cust) => NodeKind::Lane(*site, *cust),
+        Entry::Branch(split) => NodeKind::Split(*split),
     }
 }
 
@@ -268,12 +296,12 @@ fn ended(alloc: Global, duals: Duals) -> Result<Vec<Entry>, NoMemory>
 }
 
 // A split and the nodes of its children, in the first child's memory where it has room.
-fn joined(split: Entry, first: Vec<Entry>, second: Vec<Entry>) -> Result<Vec<Entry>, NoMemory>
-    ensures { IfOk result (λ v. v.items ≡ split ∷ first.items ++ second.items) }
+fn joined(split: Split, first: Vec<Entry>, second: Vec<Entry>) -> Result<Vec<Entry>, NoMemory>
+    ensures { IfOk result (λ v. v.items ≡ Entry.Branch split ∷ first.items ++ second.items) }
 {
     let mut nodes = first;
     let mut rest = second;
-    nodes.insert(0, split)?;
+    nodes.insert(0, Entry::Branch(split))?;
     nodes.append(&mut rest)?;
     Ok(nodes)
 }

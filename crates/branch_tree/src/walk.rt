@@ -1,82 +1,99 @@
 //! One walk over the nodes of a tree in preorder. The path to the next node is all that it keeps: its
 //! last step says whether the split above has its second child still to come.
-ghost use Rattle.std.specs.Prelude.{◌≡◌, ◌≤◌, ◌↔◌, [], All, IfOk, None, OnOk, Some, IsTrue, if◌then◌else◌, length};
-ghost use Rattle.location_terms.specs.Instance.{site_ids, customer_ids};
-ghost use Rattle.location_terms.specs.Fit.{Closes, DualsFit};
-ghost use Rattle.location_terms.specs.declared.limits.TheConstants.{MAX_COST};
-ghost use Rattle.branch_tree.specs.Preorder.{IsSound};
-ghost use Rattle.branch_tree.specs.Walk.{second_child, turned, next, passed, leaf_at, leaves_ahead, EndFits, lowered_all};
+ghost use Rattle.std.specs.Prelude.{[], ◌≡◌, ◌<◌, ◌↔◌, IfOk, None, OnOk, Some, IsTrue, drop, if◌then◌else◌, length, slice_get};
+ghost use Rattle.std.specs.Option.{option_copied};
+ghost use Rattle.branch_tree.specs.Walk.{second_child, turned, next, passed, leaves_ahead, leaves_from};
 
-use crate::bounds::{closes_box, lowered};
 use crate::entry::Entry;
-use dual_value::{BoxBounds, Path};
-use instance_store::{Instance, NoMemory};
-use location_terms::{Decision, MAX_COST};
+use dual_value::{Duals, Path};
+use instance_store::NoMemory;
+use location_terms::Decision;
 use std::alloc::Global;
+use std::marker::Model;
 
-// Whether each leaf closes.
-pub(crate) fn all_close(
-    alloc: Global,
-    nodes: &[Entry],
-    inst: &Instance,
-    target: Option<u64>,
-) -> Result<bool, NoMemory>
-    requires { All (IsSound (site_ids inst.now) (customer_ids inst.now)) nodes.now }
-    ensures { IfOk result (λ yes. IsTrue yes ↔ All (λ l. Closes inst.now l.0 l.1 target) (leaves_ahead [] nodes.now)) }
-{
-    let mut bounds = BoxBounds::of(alloc, inst);
-    let mut path = Path::root(alloc);
-    for entry in nodes {
-        if !end_closes(entry, inst, &mut bounds, &path, target) {
-            return Ok(false);
+/// A walk over the leaves of a tree, from the first to the last. It keeps the path to the leaf at hand,
+/// and a whole walk takes time linear in the size of the tree.
+#[derive(Drop)]
+pub struct LeafWalk<'a> {
+    path: Path,
+    // The duals of the leaf at hand, while one is left.
+    leaf: Option<&'a Duals>,
+    // The nodes behind it.
+    ahead: &'a [Entry],
+}
+
+impl<'a> Model for LeafWalk<'a> {
+    ghost use Rattle.std.specs.Prelude.{List};
+    ghost use Rattle.std.specs.Option.{option_copied};
+    ghost use Rattle.location_terms.specs.Box.{Path as Decisions};
+    ghost use Rattle.location_terms.specs.Bound.{Duals as Prices};
+    ghost use Rattle.branch_tree.specs.Walk.{leaves_from, leaves_code};
+
+    ghost Value = { List (Decisions × Prices) };
+
+    ghost coded = { leaves_code };
+
+    ghost view = { λ a. leaves_from a.path (option_copied a.leaf) a.ahead.now };
+}
+
+impl<'a> LeafWalk<'a> {
+    // The walk over all the leaves of these nodes.
+    pub(crate) fn over(alloc: Global, nodes: &'a [Entry]) -> Result<LeafWalk<'a>, NoMemory>
+        ensures { IfOk result (λ w. w ≡ leaves_ahead [] nodes.now) }
+    {
+        let mut path = Path::root(alloc);
+        let (leaf, ahead) = first_leaf(&mut path, nodes)?;
+        Ok(LeafWalk { path, leaf, ahead })
+    }
+
+    /// Whether every leaf was passed.
+    pub fn is_done(&self) -> bool
+        ensures { IsTrue result ↔ (length self.now ≡ 0) }
+    {
+        self.leaf.is_none()
+    }
+
+    /// The leaf at hand: the path to it and its duals.
+    pub fn leaf(&self) -> (&Path, &'a Duals)
+        requires { 0 < length self.now }
+        ensures { slice_get self.now 0 ≡ Some (result.0.now, result.1.now) }
+    {
+        match self.leaf {
+            Some(duals) => (&self.path, duals),
+            None => unreachable!(),
         }
-        pass(&mut path, entry)?;
     }
-    Ok(true)
-}
 
-// The least low end of the leaves with a scale, and `MAX_COST` where there is none.
-pub(crate) fn least_low(alloc: Global, nodes: &[Entry], inst: &Instance) -> Result<u64, NoMemory>
-    requires { All (EndFits inst.now) nodes.now }
-    ensures { IfOk result (λ low. low ≡ lowered_all inst.now MAX_COST (leaves_ahead [] nodes.now)) }
-{
-    let mut bounds = BoxBounds::of(alloc, inst);
-    let mut path = Path::root(alloc);
-    let mut least = MAX_COST;
-    for entry in nodes {
-        least = end_lowered(entry, &mut bounds, &path, least);
-        pass(&mut path, entry)?;
-    }
-    Ok(least)
-}
-
-fn end_closes(
-    entry: &Entry,
-    inst: &Instance,
-    bounds: &mut BoxBounds<'_>,
-    path: &Path,
-    target: Option<u64>,
-) -> bool
-    requires sound { IsSound (site_ids inst.now) (customer_ids inst.now) entry.now }
-    requires bounds { bounds.old ≡ inst.now }
-    ensures kept { bounds.new ≡ bounds.old }
-    ensures exact { IsTrue result ↔ All (λ l. Closes inst.now l.0 l.1 target) (leaf_at path.now entry.now) }
-{
-    match entry {
-        Entry::End(duals) => closes_box(inst, bounds, path, duals, target),
-        _ => true,
+    /// Goes on to the next leaf. It fails only where memory runs out, and the walk is then of no use.
+    pub fn pass(&mut self) -> Result<(), NoMemory>
+        requires { 0 < length self.old }
+        ensures { OnOk result (self.new ≡ drop 1 self.old) }
+    {
+        turn(&mut self.path)?;
+        let (leaf, ahead) = first_leaf(&mut self.path, self.ahead)?;
+        self.leaf = leaf;
+        self.ahead = ahead;
+        Ok(())
     }
 }
 
-fn end_lowered(entry: &Entry, bounds: &mut BoxBounds<'_>, path: &Path, least: u64) -> u64
-    requires { EndFits bounds.old entry.now }
-    ensures kept { bounds.new ≡ bounds.old }
-    ensures exact { result ≡ lowered_all bounds.old least (leaf_at path.now entry.now) }
+// The duals of the first leaf of these nodes, if there is one, and the nodes behind it. The path, which
+// is to the first node, goes there.
+fn first_leaf<'a>(
+    path: &mut Path,
+    nodes: &'a [Entry],
+) -> Result<(Option<&'a Duals>, &'a [Entry]), NoMemory>
+    ensures { IfOk result (λ r. leaves_from path.new (option_copied r.0) r.1.now ≡ leaves_ahead path.old nodes.now) }
 {
-    match entry {
-        Entry::End(duals) => lowered(bounds, path, duals, least),
-        _ => least,
+    let mut rest = nodes;
+    while let Some((entry, ahead)) = rest.split_first() {
+        match entry {
+            Entry::End(duals) => return Ok((Some(duals), ahead)),
+            Entry::Branch(split) => path.push(split.first_step())?,
+        }
+        rest = ahead;
     }
+    Ok((None, rest))
 }
 
 // From the path to a node to the path to the node after it.
@@ -85,12 +102,12 @@ pub(crate) fn pass(path: &mut Path, entry: &Entry) -> Result<(), NoMemory>
 {
     match entry {
         Entry::End(_) => turn(path),
-        Entry::SiteSplit(site) => path.push(Decision::Closed(*site)),
-        Entry::LaneSplit(site, cust) => path.push(Decision::No(*site, *cust)),
+        Entry::Branch(split) => path.push(split.first_step()),
     }
 }
 
-fn turn(path: &mut Path) -> Result<(), NoMemory>
+// From the path to a tree that is done to the path to the node after it.
+pub(crate) fn turn(path: &mut Path) -> Result<(), NoMemory>
     ensures { OnOk result (path.new ≡ next path.old) }
 {
     let _more = pass_leaf(path)?;

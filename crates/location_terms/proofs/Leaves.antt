@@ -1,12 +1,14 @@
 -- The children of a split hold every plan of its box, since a plan opens a site or does not, and uses a lane or does not.
-use Rattle.std.proofs.Common.{refl, inl, inr, arith, List, [], ◌∷◌, ◌++◌}
+use Rattle.std.proofs.Common.{◌⊎◌, refl, inl, inr, arith, List, [], ◌∷◌, ◌++◌}
 use Rattle.std.specs.Prelude.{Contains}
 use Rattle.std.proofs.lemmas.List.Elements.{All-push, All-nil, Contains-append_left, Contains-append_right}
-use Rattle.location_terms.specs.declared.decision.Decision.TheVariants.{Opened, Closed, Yes, No}
+use Rattle.location_terms.specs.declared.split.Split.{Split}
+use Rattle.location_terms.specs.declared.split.Split.TheVariants.{Site, Lane}
 use Rattle.location_terms.specs.Plan.{Plan}
 use Rattle.location_terms.specs.Box.{Path, IsKept, IsInBox}
 use Rattle.location_terms.specs.Bound.{Duals}
-use Rattle.location_terms.specs.Tree.{Node, Leaf, OnSite, OnLane, Tree, leaves_below, leaves_of}
+use Rattle.location_terms.specs.Split.{first_step, second_step}
+use Rattle.location_terms.specs.Tree.{Node, Leaf, Fork, Tree, leaves_below, leaves_of}
 use Rattle.location_terms.proofs.Membership.{has_or_lacks, has_or_lacks_pair}
 
 -- some leaf of these has the plan in its box
@@ -19,18 +21,18 @@ in_first P xs ys here = (here.0, Contains-append_left xs ys here.0 here.1, here.
 in_second : (P : Plan) (xs ys : List (Path × Duals)) → IsCovered P ys → IsCovered P (xs ++ ys)
 in_second P xs ys here = (here.0, Contains-append_right xs ys here.0 here.1, here.2)
 
+-- of each plan the decision of one child is true
+one_is_kept : (P : Plan) (split : Split) → IsKept P (second_step split) ⊎ IsKept P (first_step split)
+one_is_kept P (Site s) = has_or_lacks P.sites s
+one_is_kept P (Lane s c) = has_or_lacks_pair P.serves (c, s)
+
 -- a split passes a plan on to the child whose decision is true of it
 covered_below : (P : Plan) (n : Node) (path : Path) → IsInBox P path → IsCovered P (leaves_below path n)
 covered_below P (Leaf d) path in_box = ((path, d), (0, omega arith, refl), in_box)
-covered_below P (OnSite s closed opened) path in_box =
-    elim (has_or_lacks P.sites s) [
-      | inl is_open ↦ in_second P _ _ (covered_below P opened (path ++ Opened s ∷ []) (All-push (IsKept P) path (Opened s) in_box is_open))
-      | inr is_closed ↦ in_first P _ _ (covered_below P closed (path ++ Closed s ∷ []) (All-push (IsKept P) path (Closed s) in_box is_closed))
-    ]
-covered_below P (OnLane s c without using) path in_box =
-    elim (has_or_lacks_pair P.serves (c, s)) [
-      | inl is_used ↦ in_second P _ _ (covered_below P using (path ++ Yes s c ∷ []) (All-push (IsKept P) path (Yes s c) in_box is_used))
-      | inr is_unused ↦ in_first P _ _ (covered_below P without (path ++ No s c ∷ []) (All-push (IsKept P) path (No s c) in_box is_unused))
+covered_below P (Fork split first second) path in_box =
+    elim (one_is_kept P split) [
+      | inl kept ↦ in_second P _ _ (covered_below P second (path ++ second_step split ∷ []) (All-push (IsKept P) path (second_step split) in_box kept))
+      | inr kept ↦ in_first P _ _ (covered_below P first (path ++ first_step split ∷ []) (All-push (IsKept P) path (first_step split) in_box kept))
     ]
 
 -- every plan is in the box of a leaf

@@ -4,6 +4,9 @@ pub mod Optimal
 pub mod Box
 pub mod Bound
 pub mod Fit
+pub mod Split
 pub mod Tree
 pub mod Certificate
 pub mod Plain
+pub mod Carried
+pub mod Knapsack

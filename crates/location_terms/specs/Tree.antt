@@ -1,17 +1,17 @@
 -- Trees of boxes: a leaf has duals, a split has two children that together hold every plan of its box.
-use Rattle.std.specs.Prelude.{◌≡◌, ℕ, ◌+◌, List, [], ◌∷◌, ◌++◌, length, All, Contains, Option, ℤ, pos, negsuc, min, fold, filter, nat_lt, ◌/◌, ◌-◌}
-use Rattle.location_terms.specs.declared.decision.Decision.TheVariants.{Opened, Closed, Yes, No}
+use Rattle.std.specs.Prelude.{◌≡◌, ℕ, ◌+◌, List, [], ◌∷◌, ◌++◌, length, All, Option, ℤ, pos, negsuc, min, fold, filter, nat_lt, ◌/◌, ◌-◌}
+use Rattle.location_terms.specs.declared.split.Split.{Split}
 use Rattle.location_terms.specs.declared.limits.TheConstants.{MAX_COST}
 use Rattle.location_terms.specs.Instance.{Instance, site_ids, customer_ids}
 use Rattle.location_terms.specs.Box.{Path}
+use Rattle.location_terms.specs.Split.{first_step, second_step, IsSplitAmong}
 use Rattle.location_terms.specs.Bound.{Duals, bound_of}
 use Rattle.location_terms.specs.Fit.{AreInLimits, Closes}
 
--- a leaf, a split on a site with its closed and its opened child, a split on a lane with its no and its yes child
+-- a leaf, or a split with its first and its second child
 pub data Node : Type 0 where
   Leaf : Duals → Node
-  OnSite : (site : ℕ) → (closed opened : Node) → Node
-  OnLane : (site customer : ℕ) → (without using : Node) → Node
+  Fork : Split → (first second : Node) → Node
 
 -- a tree, and the ids of the sites and customers by which its duals' lists are read
 pub record Tree : Type 0 where
@@ -22,8 +22,7 @@ pub record Tree : Type 0 where
 -- the leaves below a path, in preorder: for each the path of its box, and its duals
 abbrev pub leaves_below : Path → Node → List (Path × Duals)
 leaves_below path (Leaf d) = (path, d) ∷ []
-leaves_below path (OnSite s closed opened) = leaves_below (path ++ Closed s ∷ []) closed ++ leaves_below (path ++ Opened s ∷ []) opened
-leaves_below path (OnLane s c without using) = leaves_below (path ++ No s c ∷ []) without ++ leaves_below (path ++ Yes s c ∷ []) using
+leaves_below path (Fork split first second) = leaves_below (path ++ first_step split ∷ []) first ++ leaves_below (path ++ second_step split ∷ []) second
 
 abbrev pub leaves_of : Tree → List (Path × Duals)
 leaves_of t = leaves_below [] t.root
@@ -31,8 +30,7 @@ leaves_of t = leaves_below [] t.root
 -- leaves and splits
 abbrev pub size_of : Node → ℕ
 size_of (Leaf d) = 1
-size_of (OnSite s closed opened) = 1 + size_of closed + size_of opened
-size_of (OnLane s c without using) = 1 + size_of without + size_of using
+size_of (Fork split first second) = 1 + size_of first + size_of second
 
 abbrev pub nodes_of : Tree → ℕ
 nodes_of t = size_of t.root
@@ -40,8 +38,7 @@ nodes_of t = size_of t.root
 -- each split names a site, and a customer, of these
 abbrev pub SplitsAmong : List ℕ → List ℕ → Node → Type 0
 SplitsAmong sites customers (Leaf d) = Unit {0}
-SplitsAmong sites customers (OnSite s closed opened) = Contains sites s × SplitsAmong sites customers closed × SplitsAmong sites customers opened
-SplitsAmong sites customers (OnLane s c without using) = Contains sites s × Contains customers c × SplitsAmong sites customers without × SplitsAmong sites customers using
+SplitsAmong sites customers (Fork split first second) = IsSplitAmong sites customers split × SplitsAmong sites customers first × SplitsAmong sites customers second
 
 -- each leaf has a number for each site and customer, within the limits
 abbrev pub HasLists : ℕ → ℕ → Duals → Type 0

@@ -6,19 +6,23 @@
 
 mod claim;
 mod decision;
+mod form;
 mod ids;
 mod laws;
 mod limits;
+mod split;
 mod status;
 mod trees;
 
 pub use claim::Claim;
 pub use decision::Decision;
+pub use form::LeafForm;
 pub use ids::{CustId, SiteId};
 pub use laws::weak_duality;
 pub use limits::{
     MAX_AMOUNT, MAX_COST, MAX_CUSTOMERS, MAX_ID, MAX_LANES, MAX_MULTIPLIER, MAX_SCALE, MAX_SITES,
-    MAX_TAME, MAX_VALUE,
+    MAX_TAME, MAX_UNITS, MAX_VALUE,
 };
+pub use split::Split;
 pub use status::SiteStatus;
 pub use trees::{acceptance, covering, tree_shows};

@@ -30,3 +30,7 @@ pub const MAX_MULTIPLIER: u64 = 1_000_000_000_000_000_000;
 /// The greatest size of the price on the number of sites, and of the price of a customer's demand at a
 /// site, from which an ascent stays within the limits.
 pub const MAX_TAME: u128 = 100_000_000_000_000_000_000_000;
+
+/// The greatest number of units of demand, their greatest common divisor, that a capacity holds where
+/// a leaf takes whole knapsacks.
+pub const MAX_UNITS: u64 = 1_000_000;

@@ -8,9 +8,9 @@ pub returns-in-Some-first-clause-path : goal.returns-in-Some-first-clause-path
 returns-in-Some-first-clause-path c base leads =
     let o : OpenSplit = c.in-Some.field-0 in
     let popped : c.loop-split.above.items ≡ c.pop.new.self.items ++ o ∷ [] = search rules in
-    turned_path c.loop-split.above.items c.pop.new.self.items o.split o.first popped c.in-Some-first.first c.in-Some-first.is base c.loop-split.path c.replace_last.new.self
+    turned_path c.loop-split.above.items c.pop.new.self.items o.split o.first popped c.in-Some-first.first c.in-Some-first.is base c.loop-split.path c.turn_to_first.new.path
     (c.loop-split.invariant.leads base leads)
-    (λ front last is. c.replace_last.ensures front last is ∙ ap (λ d. front ++ d ∷ []) c.first_step.ensures)
+    c.turn_to_first.ensures
     ∙ ap (λ (xs : List OpenSplit). base ++ steps_above xs) (sym c.push_reserved.ensures.items)
 
 pub loop-split-preserved : goal.loop-split-preserved
@@ -18,7 +18,7 @@ loop-split-preserved c =
     let o : OpenSplit = c.in-Some.field-0 in
     let popped : c.loop-split.above.items ≡ c.pop.new.self.items ++ o ∷ [] = search rules in
     record {
-      nodes = ap (nodes_kept c.pop.new.self.items None) (c.push_reserved-in-None.ensures.items ∙ ap (λ e. c.loop-split.done.items ++ e ∷ []) c.entry_of.ensures) ∙ closed_nodes c.loop-split.above.items c.pop.new.self.items o.split o.first popped c.in-None.is c.loop-split.done.items ∙ c.loop-split.invariant.nodes;
+      nodes = ap (nodes_kept c.pop.new.self.items None) c.push_reserved-in-None.ensures.items ∙ closed_nodes c.loop-split.above.items c.pop.new.self.items o.split o.first popped c.in-None.is c.loop-split.done.items ∙ c.loop-split.invariant.nodes;
       left = closed_left c.loop-split.above.items c.pop.new.self.items o.split o.first popped c.in-None.is ∙ c.loop-split.invariant.left;
       leads = λ base leads. closed_path c.loop-split.above.items c.pop.new.self.items o.split o.first popped c.in-None.is base c.loop-split.path c.pop-in-None.new.self c.pop-in-None.result (c.loop-split.invariant.leads base leads) c.pop-in-None.ensures;
       deep = omega (arith, ap length popped, length-append c.pop.new.self.items (o ∷ []), ap length c.pop-in-None.ensures, length-append c.pop-in-None.new.self (c.pop-in-None.result ∷ []));

@@ -1,7 +1,7 @@
 use Rattle.std.proofs.Common.{◌≡◌, Some, None, [], sym, ap, ◌∙◌, arith}
 use Rattle.branch_tree.specs.Walk.{turned}
 use Rattle.branch_tree.proofs.Ahead.{turned_first, turned_second, turned_root, next_some, next_none}
-use Rattle.branch_tree.proofs.Loops.{no_step}
+use Rattle.branch_tree.proofs.Judged.{no_step}
 use Rattle.branch_tree.proofs.walk.pass_leaf.Goals as goal
 
 pub returns-in-Some : goal.returns-in-Some
