@@ -1,7 +1,7 @@
 -- One site more with the lanes of its column, and one lane more of a column.
 use Rattle.std.proofs.Common.{◌≡◌, ℕ, ◌+◌, ◌<◌, List, [], ◌∷◌, ◌++◌, map, length, take, Option, None, slice_index_or, get_or, sym, ap, ◌∙◌, arith}
 use Rattle.std.specs.List.{range_with_len, zip}
-use Rattle.std.proofs.lemmas.List.{get_or-map, length-map, take_more, take_all}
+use Rattle.std.proofs.lemmas.List.{get_or-map, length-map, take_more}
 use Rattle.std.proofs.lemmas.List.FromFn.{length-range_with_len, get_or-range_with_len}
 use Rattle.std.proofs.lemmas.Slice.Zip.{get_or-zip}
 use Rattle.instance_store.specs.declared.numbered.ListedSite.{ListedSite}

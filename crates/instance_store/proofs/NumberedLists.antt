@@ -1,5 +1,5 @@
 -- Lists make a valid instance, whose ids are places.
-use Rattle.std.proofs.Common.{◌≡◌, ℕ, ◌+◌, ◌<◌, ◌≤◌, List, [], ◌∷◌, map, length, All, Option, None, IsSome, slice_index_or, get_or, refl, sym, ap, subst, ◌∙◌, arith}
+use Rattle.std.proofs.Common.{◌≡◌, ℕ, ◌+◌, ◌<◌, ◌≤◌, List, [], ◌∷◌, map, length, All, None, IsSome, slice_index_or, get_or, refl, sym, ap, subst, ◌∙◌, arith}
 use Rattle.std.specs.List.{range_with_len, zip}
 use Rattle.std.proofs.lemmas.List.{length-map}
 use Rattle.std.proofs.lemmas.List.Elements.{All-map}
@@ -8,7 +8,7 @@ use Rattle.std.proofs.lemmas.Simd.{map-map}
 use Rattle.std.proofs.lemmas.Slice.Zip.{firsts-zip, seconds-zip, get_or-zip}
 use Rattle.location_terms.specs.declared.limits.TheConstants.{MAX_AMOUNT, MAX_SITES, MAX_CUSTOMERS}
 use Rattle.location_terms.specs.declared.status.SiteStatus.TheVariants.{Free}
-use Rattle.location_terms.specs.Instance.{Instance, Site, Customer, AreIds, AreSizes, IsValid, lanes_of, lanes_by_customer}
+use Rattle.location_terms.specs.Instance.{Site, AreIds, AreSizes, IsValid, lanes_of, lanes_by_customer}
 use Rattle.location_terms.specs.Plain.{IsPlain}
 use Rattle.location_terms.proofs.Table.{IsTable, columns, lanes_by_columns}
 use Rattle.instance_store.specs.declared.rows.CustRow.{CustRow}

@@ -1,5 +1,5 @@
 -- What is read of a stored instance is what the instance has.
-use Rattle.std.proofs.Common.{◌≡◌, ℕ, ◌*◌, ◌<◌, ◌≤◌, ◌↔◌, nat_eq, List, [], map, length, position, All, Contains, Option, None, IfSome, IsSome, slice_index, slice_index_or, get_or, sym, ap, subst, ◌∙◌, arith}
+use Rattle.std.proofs.Common.{◌≡◌, ℕ, ◌<◌, ◌≤◌, ◌↔◌, nat_eq, List, [], map, length, position, All, Contains, Option, None, IfSome, IsSome, slice_index, slice_index_or, get_or, sym, ap, subst, ◌∙◌, arith}
 use Rattle.std.proofs.lemmas.List.{length-map, get_or-map}
 use Rattle.std.proofs.lemmas.List.Elements.{All-map}
 use Rattle.std.proofs.lemmas.Option.{IfSome_then}
@@ -180,4 +180,26 @@ module _ (a : Inside) (sites : List SiteRow) (free : a.sites.items ≡ map free_
     rows_full = subst (All (λ s. length s.row.lanes ≡ length a.custs.items)) (sym free) (All-map (λ s. length s.row.lanes ≡ length a.custs.items) free_site sites parts.rows_full);
     site_places = places ∙ sym (ap stored_ids free ∙ map-map (λ s. s.row.id) free_site sites);
     cust_places = cust_places;
+  }
+
+-- a copy of all lists is stored as the same instance
+module _ (a b : Inside) (lo : b.lo ≡ a.lo) (hi : b.hi ≡ a.hi) (next_site : b.next_site ≡ a.next_site) (next_cust : b.next_cust ≡ a.next_cust)
+    (custs : b.custs.items ≡ a.custs.items) (sites : b.sites.items ≡ a.sites.items) (site_places : b.site_places.keys ≡ a.site_places.keys) (cust_places : b.cust_places.keys ≡ a.cust_places.keys) where
+  pub stored-copy : stored_instance b ≡ stored_instance a
+  stored-copy = λ k. record {
+    sites = map site_in (sites k);
+    customers = map customer_of (custs k);
+    lanes = lanes_of (stored_ids (sites k)) (cust_row_ids (custs k)) (stored_rows (sites k));
+    lo = lo k;
+    hi = hi k;
+    next_site = next_site k;
+    next_customer = next_cust k;
+  }
+
+  pub IsStored-copy : IsStored a → IsStored b
+  IsStored-copy stored = record {
+    valid = subst IsValid (sym stored-copy) stored.valid;
+    rows_full = subst (λ (p : List CustRow × List StoredSite). All (λ s. length s.row.lanes ≡ length p.0) p.1) (λ k. (sym custs k, sym sites k)) stored.rows_full;
+    site_places = site_places ∙ stored.site_places ∙ ap stored_ids (sym sites);
+    cust_places = cust_places ∙ stored.cust_places ∙ ap cust_row_ids (sym custs);
   }

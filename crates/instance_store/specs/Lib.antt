@@ -5,3 +5,5 @@ pub mod Numbered
 pub mod Places
 pub mod Stored
 pub mod Statuses
+pub mod Edits
+pub mod Undo

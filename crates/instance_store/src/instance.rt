@@ -82,6 +82,26 @@ impl Instance {
         })
     }
 
+    /// A copy of the instance. It fails only where memory runs out.
+    pub fn copied(&self, alloc: Global) -> Result<Instance, NoMemory>
+        ensures { IfOk result (λ I. I ≡ self.now) }
+    {
+        let custs = Vec::from_slice(alloc, &self.custs)?;
+        let sites = copied_sites(alloc, &self.sites)?;
+        let site_places = self.site_places.clone()?;
+        let cust_places = self.cust_places.clone()?;
+        Ok(Instance {
+            lo: self.lo,
+            hi: self.hi,
+            next_site: self.next_site,
+            next_cust: self.next_cust,
+            custs,
+            sites,
+            site_places,
+            cust_places,
+        })
+    }
+
     /// The number of sites, which is at least 1.
     pub fn sites(&self) -> usize
         ensures count { result ≡ length self.now.sites }
@@ -226,4 +246,28 @@ fn free_sites(alloc: Global, rows: Vec<SiteRow>) -> Result<Vec<StoredSite>, NoMe
         })
         .collect(alloc)?;
     Ok(sites)
+}
+
+fn copied_sites(alloc: Global, sites: &[StoredSite]) -> Result<Vec<StoredSite>, NoMemory>
+    ensures { IfOk result (λ copies. copies.items ≡ sites.now) }
+{
+    let mut copies = Vec::with_capacity(alloc, sites.len())?;
+    for site in sites {
+        copies.push(copied_site(alloc, site)?)?;
+    }
+    Ok(copies)
+}
+
+fn copied_site(alloc: Global, site: &StoredSite) -> Result<StoredSite, NoMemory>
+    ensures { IfOk result (λ copy. copy ≡ site.now) }
+{
+    Ok(StoredSite {
+        row: SiteRow {
+            id: site.row.id,
+            fixed: site.row.fixed,
+            cap: site.row.cap,
+            lanes: site.row.lanes.copied(alloc)?,
+        },
+        status: site.status,
+    })
 }

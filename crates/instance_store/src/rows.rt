@@ -1,5 +1,5 @@
 //! The rows that an instance is made of.
-ghost use Rattle.std.specs.Prelude.{◌≡◌, ◌<◌, ◌↔◌, ◌++◌, ◌∷◌, [], None, IsTrue, IfOk, OnErr, length, slice_index_or};
+ghost use Rattle.std.specs.Prelude.{◌≡◌, ◌<◌, ◌≤◌, ◌↔◌, ◌++◌, ◌∷◌, [], None, IsTrue, IfOk, OnOk, OnErr, length, slice_index_or, slice_set, insert, remove};
 ghost use Rattle.instance_store.specs.Small.{IsSmall, AreSmall};
 ghost use Rattle.instance_store.specs.Lanes.{lane_in};
 
@@ -49,6 +49,46 @@ impl LaneRow {
             row.push(*lane)?;
         }
         Ok(row)
+    }
+
+    /// A copy of the row. It fails only where memory runs out.
+    pub fn copied(&self, alloc: Global) -> Result<LaneRow, NoMemory>
+        ensures { IfOk result (λ row. row ≡ self.now) }
+    {
+        Ok(LaneRow {
+            costs: Vec::from_slice(alloc, &self.costs)?,
+        })
+    }
+
+    /// Replaces the lane to the customer at place `k`. Its cost is at most `MAX_AMOUNT`. It takes no
+    /// memory.
+    pub fn set(&mut self, k: usize, lane: Option<u64>)
+        requires place { k < length self.old }
+        requires small { IsSmall lane }
+        ensures { self.new ≡ slice_set self.old k lane }
+    {
+        self.costs[k] = stored(lane);
+    }
+
+    /// Puts the lane to a customer before that to the one at place `k`, or behind the others. Its cost is
+    /// at most `MAX_AMOUNT`. It fails only where memory runs out, and then leaves the row as it was.
+    pub fn insert(&mut self, k: usize, lane: Option<u64>) -> Result<(), NoMemory>
+        requires place { k ≤ length self.old }
+        requires small { IsSmall lane }
+        ensures inserted { OnOk result (self.new ≡ insert self.old k lane) }
+        ensures kept { OnErr result (self.new ≡ self.old) }
+    {
+        self.costs.insert(k, stored(lane))?;
+        Ok(())
+    }
+
+    /// Takes the lane to the customer at place `k` out, and gives it back. It takes no memory.
+    pub fn remove(&mut self, k: usize) -> Option<u64>
+        requires { k < length self.old }
+        ensures rest { self.new ≡ remove self.old k }
+        ensures lane { result ≡ slice_index_or self.old k None }
+    {
+        lane_in(self.costs.remove(k))
     }
 
     /// Puts the lane to the next customer behind the others. Its cost is at most `MAX_AMOUNT`. It

@@ -129,6 +129,25 @@ fn settles_a_site(rt: HostRuntime) -> Result<(), Fail> {
     inst.set_status(1, SiteStatus::MustClose);
     assert!(rt; has_statuses(&inst, SiteStatus::Free, SiteStatus::MustClose));
     assert!(rt; is_example_but_settled(&inst));
+    let copy = inst.copied(rt.alloc())?;
+    assert!(rt; has_statuses(&copy, SiteStatus::Free, SiteStatus::MustClose));
+    assert!(rt; is_example_but_settled(&copy));
+    Ok(())
+}
+
+// Whether lanes of a row are put in, replaced and taken out.
+fn changes_lanes(alloc: Global) -> Result<bool, NoMemory> {
+    let mut row = LaneRow::from_slice(alloc, &[Some(1), None])?;
+    row.insert(1, Some(5))?;
+    row.set(0, None);
+    let changed = has_row(&row, [None, Some(5), None]);
+    let taken = row.remove(1);
+    Ok(changed && taken == Some(5) && row.len() == 2)
+}
+
+#[test]
+fn changes_a_row(rt: HostRuntime) -> Result<(), Fail> {
+    assert!(rt; changes_lanes(rt.alloc())?);
     Ok(())
 }
 

@@ -1,4 +1,4 @@
-use Rattle.std.proofs.Common.{◌≡◌, ◌∙◌, arith}
+use Rattle.std.proofs.Common.{◌∙◌, arith}
 use Rattle.std.proofs.lemmas.List.{take_all}
 use Rattle.instance_store.specs.Numbered.{columns_of}
 use Rattle.instance_store.proofs.ColumnSteps.{columns_more, length-columns_of}

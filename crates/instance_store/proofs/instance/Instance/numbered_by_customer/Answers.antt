@@ -1,4 +1,4 @@
-use Rattle.std.proofs.Common.{◌≡◌, map, length, All, None, IsSome, subst, sym, ap, ◌∙◌}
+use Rattle.std.proofs.Common.{◌≡◌, map, length, All, subst, sym, ap, ◌∙◌}
 use Rattle.std.proofs.lemmas.Result.{IfOk-weaker}
 use Rattle.instance_store.specs.declared.numbered.CustLanes.{CustLanes}
 use Rattle.instance_store.specs.Numbered.{columns_of, numbered_by_site}

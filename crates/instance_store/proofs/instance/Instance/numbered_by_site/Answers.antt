@@ -1,4 +1,4 @@
-use Rattle.std.proofs.Common.{◌≡◌, ◌+◌, length, sym, ◌∙◌, subst, arith}
+use Rattle.std.proofs.Common.{sym, ◌∙◌, subst, arith}
 use Rattle.std.proofs.lemmas.Result.{IfOk-weaker}
 use Rattle.location_terms.specs.Plain.{IsPlain}
 use Rattle.instance_store.proofs.NumberedLists.{parts-stored, stored-numbered, plain-by_site}
