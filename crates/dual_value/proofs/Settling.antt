@@ -2,7 +2,7 @@
 use Rattle.std.proofs.Common.{◌≡◌, ◌==◌, ℕ, ◌+◌, ◌<◌, ◌++◌, ◌∷◌, [], refl, sym, ap, subst, ◌∙◌, inl, inr, Bool, true, false, ◌&&◌, ◌||◌, not, List, length, take, drop, get_or, slice_set, None, Some, arith}
 use Rattle.std.specs.Prelude.{Contains}
 use Rattle.std.proofs.lemmas.Bool.{ne_eqb, eq-eqb, and_right, false≢true, cases_eq}
-use Rattle.std.proofs.lemmas.List.{take_all, take_more, take-append-le, length-set, get_or-set_other, get_or_push, get_or_append_left}
+use Rattle.std.proofs.lemmas.List.{take_more, length-set, get_or-set_other, get_or_push, get_or_append_left}
 use Rattle.std.proofs.lemmas.Grind.{get_or-set_at}
 use Rattle.std.proofs.lemmas.List.Folds.{list_any-append}
 use Rattle.std.specs.List.{list_any}
@@ -13,6 +13,7 @@ use Rattle.location_terms.specs.declared.decision.Decision.TheVariants.{Opened, 
 use Rattle.location_terms.specs.declared.status.SiteStatus.{SiteStatus}
 use Rattle.location_terms.specs.declared.status.SiteStatus.TheVariants.{Free, MustOpen, MustClose}
 use Rattle.location_terms.proofs.Rising.{one_place}
+use Rattle.lane_order.proofs.Lists.{written_whole}
 use Rattle.dual_value.specs.Lanes.{named_site}
 use Rattle.dual_value.specs.SiteState.{IsState}
 use Rattle.dual_value.specs.PreparedSites.{AreStates, settled_by, opened_by, state_of}
@@ -152,10 +153,6 @@ states_by_none I path d states none are = record {
   count = are.count;
   each = λ i f b. state_kept path (site_at I i) d (get_or states i f) (λ same. let e : None ≡ Some (site_at I i).id = sym none ∙ same in cc) (are.each i f b);
 }
-
--- a list that is written whole into the room of one that is as long
-pub written_whole : {X : Type 0} (old new : List X) (n : ℕ) → n ≡ length old → length new ≡ length old → take n (new ++ drop (length new) old) ≡ new
-written_whole old new n room long = take-append-le n new (drop (length new) old) (omega (arith, room, long)) ∙ take_all n new (omega (arith, room, long))
 
 -- what one more step of a path makes of a list
 pub step_taken : {X : Type 0} (P : Path → List X → Type 0) (path items : Path) (k : ℕ) (d : Decision) (old start new : List X) (n : ℕ) → items ≡ path → k < length items → d ≡ get_or items k d

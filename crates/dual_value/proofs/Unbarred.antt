@@ -1,5 +1,5 @@
--- A path without steps on lanes bars no lane.
-use Rattle.std.proofs.Common.{◌≡◌, ℕ, ◌+◌, cond, refl, arith, false, [], ◌∷◌}
+-- How many steps of a path are on lanes, and that a path without any takes no lane away.
+use Rattle.std.proofs.Common.{◌≡◌, ℕ, ◌+◌, cond, refl, false, [], ◌∷◌}
 use Rattle.std.specs.List.{list_any}
 use Rattle.std.proofs.lemmas.List.Sums.{sum_by-cons}
 use Rattle.location_terms.specs.Box.{Path, bars_lane}
@@ -10,9 +10,10 @@ use Rattle.dual_value.specs.Lanes.{steps_on_lanes, is_lane_step}
 pub more_steps : (d : Decision) (path : Path) → steps_on_lanes (d ∷ path) ≡ cond (is_lane_step d) 1 0 + steps_on_lanes path
 more_steps d path = sum_by-cons (λ x. cond (is_lane_step x) 1 0) d path
 
-pub none_barred : (s c : ℕ) (path : Path) → steps_on_lanes path ≡ 0 → list_any (bars_lane s c) path ≡ false
+-- without a step on a lane none takes a lane away
+pub none_barred : (s c : ℕ) (path : Path) → list_any is_lane_step path ≡ false → list_any (bars_lane s c) path ≡ false
 none_barred s c [] e = refl
-none_barred s c (Opened t ∷ path) e = none_barred s c path (omega (arith, more_steps (Opened t) path))
-none_barred s c (Closed t ∷ path) e = none_barred s c path (omega (arith, more_steps (Closed t) path))
-none_barred s c (Yes t d ∷ path) e = absurd (omega (arith, more_steps (Yes t d) path))
-none_barred s c (No t d ∷ path) e = absurd (omega (arith, more_steps (No t d) path))
+none_barred s c (Opened t ∷ path) e = none_barred s c path e
+none_barred s c (Closed t ∷ path) e = none_barred s c path e
+none_barred s c (Yes t d ∷ path) e = cc
+none_barred s c (No t d ∷ path) e = cc

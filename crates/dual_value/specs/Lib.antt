@@ -9,3 +9,4 @@ pub mod PreparedSites
 pub mod Sorted
 pub mod Zeros
 pub mod Scales
+pub mod SeenPath

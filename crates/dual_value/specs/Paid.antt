@@ -1,3 +1,4 @@
+-- For private functions alone: no public contract cites this page.
 -- The parts of a slack.
 use Rattle.std.specs.Prelude.{◌≡◌, ℕ, ◌+◌, ◌*◌, ◌<◌, Bool, true, Option, None, Some, List, length, slice_index_or, unwrap_or, ℤ, pos, ◌+ℤ◌, ◌-ℤ◌, if◌then◌else◌}
 use Rattle.std.specs.Int.Signed.{le_z}

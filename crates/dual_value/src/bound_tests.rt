@@ -214,6 +214,22 @@ fn keeps_the_bound(
     true
 }
 
+// Whether the bound by an order that is there is this one.
+fn has_bound_by_order(
+    alloc: Global,
+    inst: &Instance,
+    path: &Path,
+    duals: &Duals,
+    expected: i128,
+) -> bool
+    requires { DualsFit inst.now duals.now }
+{
+    match LaneOrder::of(alloc, inst) {
+        Ok(order) => BoxBounds::by_order(alloc, inst, &order).bound(path, duals) == expected,
+        Err(_) => false,
+    }
+}
+
 fn bounds_again_and_again(alloc: Global, inst: &Instance) -> bool {
     let prices = Prices {
         q: 1,
@@ -223,7 +239,9 @@ fn bounds_again_and_again(alloc: Global, inst: &Instance) -> bool {
     };
     match (path(alloc, &[yes(2, 1)]), duals_of(alloc, prices)) {
         (Ok(path), Ok(duals)) => {
-            fit(inst, &duals) && keeps_the_bound(alloc, inst, &path, &duals, 23_000_000)
+            fit(inst, &duals)
+                && keeps_the_bound(alloc, inst, &path, &duals, 23_000_000)
+                && has_bound_by_order(alloc, inst, &path, &duals, 23_000_000)
         }
         _ => false,
     }

@@ -1,4 +1,4 @@
-//! The slack of a site and the bound of a box.
+//! The slack of a site and the bound of a box, by the rows of an instance. Nothing in it takes memory.
 ghost use Rattle.std.specs.Prelude.{◌≡◌, ◌+◌, ◌*◌, ◌<◌, ◌≤◌, false, length, pos, ◌≤ℤ◌, unsigned_abs};
 ghost use Rattle.location_terms.specs.Instance.{IsValid, site_at, customer_at, lane};
 ghost use Rattle.location_terms.specs.Box.{is_closed, is_torn};
@@ -7,10 +7,13 @@ ghost use Rattle.location_terms.specs.Fit.{DualsFit};
 ghost use Rattle.location_terms.specs.declared.limits.TheConstants.{MAX_AMOUNT, MAX_SITES, MAX_CUSTOMERS, MAX_SCALE, MAX_VALUE, MAX_MULTIPLIER};
 ghost use Rattle.instance_store.specs.Small.{IsSmall};
 ghost use Rattle.dual_value.specs.Paid.{is_dear, paid_above, priced_cost};
+ghost use Rattle.dual_value.specs.SeenPath.{IsSeen};
 
-use crate::settled::{is_closed, is_unbarred};
-use crate::{Duals, Path, SiteState, is_torn, site_state};
+use crate::seen_path::{SeenPath, seen};
+use crate::settled::is_closed;
+use crate::{DualsByPlace, SiteState, site_state};
 use instance_store::Instance;
+use location_terms::Decision;
 
 /// The greatest size of a slack, either sign.
 pub const MAX_SLACK: u128 = 2_000_000_000_000_000_000_000_000_000_000_000;
@@ -21,72 +24,72 @@ pub const MAX_BOUND: u128 = 10_000_000_000_000_000_000_000_000_000_000_000_000;
 /// What the path leaves of the scaled fixed cost of the site at place `site`: that cost and the
 /// price on the number of sites, less the price of the capacity and what the customers pay above the
 /// levels of the allowed lanes from the site.
-pub fn slack(inst: &Instance, path: &Path, duals: &Duals, site: usize) -> i128
-    requires fit { DualsFit inst.now duals.now }
+pub fn slack<D: DualsByPlace>(inst: &Instance, path: &[Decision], duals: &D, site: usize) -> i128
+    requires fit { DualsFit inst.now (D.numbers duals.now) }
     requires site { site < length inst.now.sites }
-    ensures exact { result ≡ slack_of inst.now path.now duals.now site }
+    ensures exact { result ≡ slack_of inst.now path.now (D.numbers duals.now) site }
     ensures small { unsigned_abs result ≤ MAX_SLACK }
 {
-    slack_in(inst, path, duals, site, is_torn(inst, path))
+    slack_in(inst, &seen(inst, path), duals, site)
 }
 
 /// The bound of the box: `q` times the cost of each feasible plan of the box is at least this.
-pub fn bound(inst: &Instance, path: &Path, duals: &Duals) -> i128
-    requires { DualsFit inst.now duals.now }
-    ensures exact { result ≡ bound_of inst.now path.now duals.now }
+pub fn bound<D: DualsByPlace>(inst: &Instance, path: &[Decision], duals: &D) -> i128
+    requires { DualsFit inst.now (D.numbers duals.now) }
+    ensures exact { result ≡ bound_of inst.now path.now (D.numbers duals.now) }
     ensures small { unsigned_abs result ≤ MAX_BOUND }
 {
-    let torn = is_torn(inst, path);
-    value_total(inst, duals) - count_price(inst, duals.nu()) + share_total(inst, path, duals, torn)
+    let path = seen(inst, path);
+    value_total(inst, duals) - count_price(inst, duals.nu()) + share_total(inst, &path, duals)
 }
 
-// What all sites add to the bound, where it is known whether the path is torn.
-fn share_total(inst: &Instance, path: &Path, duals: &Duals, torn: bool) -> i128
-    requires fit { DualsFit inst.now duals.now }
+// What all sites add to the bound.
+fn share_total<D: DualsByPlace>(inst: &Instance, path: &SeenPath<'_>, duals: &D) -> i128
+    requires fit { DualsFit inst.now (D.numbers duals.now) }
     requires valid { IsValid inst.now }
-    requires torn { torn ≡ is_torn inst.now path.now }
-    ensures exact { result ≡ total (share_of inst.now path.now duals.now) (length inst.now.sites) }
+    requires seen { IsSeen inst.now path.now }
+    ensures exact { result ≡ total (share_of inst.now path.now.steps.now (D.numbers duals.now)) (length inst.now.sites) }
     ensures small { unsigned_abs result ≤ MAX_SITES * MAX_SLACK }
 {
     let mut sum = 0;
     for site in 0..inst.sites() {
-        sum += share(inst, path, duals, site, torn);
+        sum += share(inst, path, duals, site);
     }
     sum
 }
 
-fn share(inst: &Instance, path: &Path, duals: &Duals, site: usize, torn: bool) -> i128
-    requires fit { DualsFit inst.now duals.now }
+fn share<D: DualsByPlace>(inst: &Instance, path: &SeenPath<'_>, duals: &D, site: usize) -> i128
+    requires fit { DualsFit inst.now (D.numbers duals.now) }
     requires valid { IsValid inst.now }
     requires site { site < length inst.now.sites }
-    requires torn { torn ≡ is_torn inst.now path.now }
-    ensures exact { result ≡ share_of inst.now path.now duals.now site }
+    requires seen { IsSeen inst.now path.now }
+    ensures exact { result ≡ share_of inst.now path.now.steps.now (D.numbers duals.now) site }
     ensures small { unsigned_abs result ≤ MAX_SLACK }
 {
-    match site_state(inst, path, site) {
+    match site_state(inst, path.steps, site) {
         SiteState::Closed => 0,
-        SiteState::Opened => slack_in(inst, path, duals, site, torn),
-        SiteState::Free => slack_in(inst, path, duals, site, torn).min(0),
+        SiteState::Opened => slack_in(inst, path, duals, site),
+        SiteState::Free => slack_in(inst, path, duals, site).min(0),
     }
 }
 
-fn slack_in(inst: &Instance, path: &Path, duals: &Duals, site: usize, torn: bool) -> i128
-    requires fit { DualsFit inst.now duals.now }
+fn slack_in<D: DualsByPlace>(inst: &Instance, path: &SeenPath<'_>, duals: &D, site: usize) -> i128
+    requires fit { DualsFit inst.now (D.numbers duals.now) }
     requires valid { IsValid inst.now }
     requires site { site < length inst.now.sites }
-    requires torn { torn ≡ is_torn inst.now path.now }
-    ensures exact { result ≡ slack_of inst.now path.now duals.now site }
+    requires seen { IsSeen inst.now path.now }
+    ensures exact { result ≡ slack_of inst.now path.now.steps.now (D.numbers duals.now) site }
     ensures small { unsigned_abs result ≤ MAX_SLACK }
 {
-    priced_cost(inst, duals, site) - paid(inst, path, duals, site, torn)
+    priced_cost(inst, duals, site) - paid(inst, path, duals, site)
 }
 
 // The scaled fixed cost of the site with the price on the number of sites, less the price of its
 // capacity.
-pub(crate) fn priced_cost(inst: &Instance, duals: &Duals, site: usize) -> i128
-    requires fit { DualsFit inst.now duals.now }
+pub(crate) fn priced_cost<D: DualsByPlace>(inst: &Instance, duals: &D, site: usize) -> i128
+    requires fit { DualsFit inst.now (D.numbers duals.now) }
     requires site { site < length inst.now.sites }
-    ensures exact { result ≡ priced_cost inst.now duals.now site }
+    ensures exact { result ≡ priced_cost inst.now (D.numbers duals.now) site }
     ensures small { unsigned_abs result ≤ MAX_SCALE * MAX_AMOUNT + MAX_VALUE + MAX_MULTIPLIER * MAX_AMOUNT }
 {
     let scaled = times(u64::from(duals.q()), inst.fixed(site));
@@ -106,40 +109,42 @@ fn cap_price(price: u64, cap: Option<u64>) -> i128
 }
 
 // What the customers pay above the levels of the allowed lanes from the site.
-fn paid(inst: &Instance, path: &Path, duals: &Duals, site: usize, torn: bool) -> i128
-    requires fit { DualsFit inst.now duals.now }
+fn paid<D: DualsByPlace>(inst: &Instance, path: &SeenPath<'_>, duals: &D, site: usize) -> i128
+    requires fit { DualsFit inst.now (D.numbers duals.now) }
     requires valid { IsValid inst.now }
     requires site { site < length inst.now.sites }
-    requires torn { torn ≡ is_torn inst.now path.now }
-    ensures exact { result ≡ total (paid_at inst.now path.now duals.now site) (length inst.now.customers) }
+    requires seen { IsSeen inst.now path.now }
+    ensures exact { result ≡ total (paid_at inst.now path.now.steps.now (D.numbers duals.now) site) (length inst.now.customers) }
     ensures low { pos 0 ≤ℤ result }
     ensures high { result ≤ℤ pos (MAX_CUSTOMERS * MAX_VALUE) }
 {
-    if torn || is_closed(inst, path, site) {
+    let torn = path.torn;
+    if torn || is_closed(inst, path.steps, site) {
         return 0;
     }
     paid_from(inst, path, duals, site)
 }
 
-fn paid_from(inst: &Instance, path: &Path, duals: &Duals, site: usize) -> i128
-    requires fit { DualsFit inst.now duals.now }
+fn paid_from<D: DualsByPlace>(inst: &Instance, path: &SeenPath<'_>, duals: &D, site: usize) -> i128
+    requires fit { DualsFit inst.now (D.numbers duals.now) }
     requires valid { IsValid inst.now }
     requires site { site < length inst.now.sites }
-    requires whole { is_torn inst.now path.now ≡ false }
-    requires open { is_closed path.now (site_at inst.now site) ≡ false }
-    ensures exact { result ≡ total (paid_at inst.now path.now duals.now site) (length inst.now.customers) }
+    requires seen { IsSeen inst.now path.now }
+    requires whole { is_torn inst.now path.now.steps.now ≡ false }
+    requires open { is_closed path.now.steps.now (site_at inst.now site) ≡ false }
+    ensures exact { result ≡ total (paid_at inst.now path.now.steps.now (D.numbers duals.now) site) (length inst.now.customers) }
     ensures low { pos 0 ≤ℤ result }
     ensures high { result ≤ℤ pos (MAX_CUSTOMERS * MAX_VALUE) }
 {
     let lanes = inst.lanes(site);
-    let values = duals.values();
     let q = duals.q();
     let price = duals.u(site);
     let mut sum = 0;
     for cust in 0..lanes.len() {
         let cost = lanes.get(cust);
-        if !is_dear(cost, q, values[cust]) {
-            sum += paid_by(inst, path, site, cust, cost, values[cust], q, price);
+        let value = duals.v(cust);
+        if !is_dear(cost, q, value) {
+            sum += paid_by(inst, path, site, cust, cost, value, q, price);
         }
     }
     sum
@@ -162,7 +167,7 @@ fn is_dear(cost: Option<u64>, q: u32, value: i128) -> bool
 #[inline(never)]
 fn paid_by(
     inst: &Instance,
-    path: &Path,
+    path: &SeenPath<'_>,
     site: usize,
     cust: usize,
     cost: Option<u64>,
@@ -172,14 +177,15 @@ fn paid_by(
 ) -> i128
     requires site { site < length inst.now.sites }
     requires customer { cust < length inst.now.customers }
-    requires whole { is_torn inst.now path.now ≡ false }
-    requires open { is_closed path.now (site_at inst.now site) ≡ false }
+    requires seen { IsSeen inst.now path.now }
+    requires whole { is_torn inst.now path.now.steps.now ≡ false }
+    requires open { is_closed path.now.steps.now (site_at inst.now site) ≡ false }
     requires lane { cost ≡ lane inst.now (site_at inst.now site).id (customer_at inst.now cust).id }
     requires small { IsSmall cost }
     requires value { unsigned_abs value ≤ MAX_VALUE }
     requires q { q ≤ MAX_SCALE }
     requires price { price ≤ MAX_MULTIPLIER }
-    ensures exact { result ≡ paid_above inst.now path.now q price value site cust }
+    ensures exact { result ≡ paid_above inst.now path.now.steps.now q price value site cust }
     ensures low { pos 0 ≤ℤ result }
     ensures high { result ≤ℤ pos MAX_VALUE }
 {
@@ -187,7 +193,7 @@ fn paid_by(
         return 0;
     };
     let level = level(q, cost, price, inst.demand(cust));
-    if value <= level || !is_unbarred(inst, path, site, cust) {
+    if value <= level || !path.leaves_lane(inst, site, cust) {
         return 0;
     }
     value - level
@@ -212,15 +218,15 @@ pub(crate) fn times(factor: u64, amount: u64) -> i128
     i128::from(factor) * i128::from(amount)
 }
 
-pub(crate) fn value_total(inst: &Instance, duals: &Duals) -> i128
-    requires fit { DualsFit inst.now duals.now }
+pub(crate) fn value_total<D: DualsByPlace>(inst: &Instance, duals: &D) -> i128
+    requires fit { DualsFit inst.now (D.numbers duals.now) }
     requires valid { IsValid inst.now }
-    ensures exact { result ≡ total (v_at duals.now) (length inst.now.customers) }
+    ensures exact { result ≡ total (v_at (D.numbers duals.now)) (length inst.now.customers) }
     ensures small { unsigned_abs result ≤ MAX_CUSTOMERS * MAX_VALUE }
 {
     let mut sum = 0;
-    for value in duals.values() {
-        sum += *value;
+    for cust in 0..inst.custs() {
+        sum += duals.v(cust);
     }
     sum
 }

@@ -5,6 +5,7 @@
 
 mod bounds;
 mod box_bounds;
+mod by_place;
 mod closing;
 mod duals;
 mod fit;
@@ -14,11 +15,13 @@ mod path;
 mod prepared;
 mod preparing;
 mod scales;
+mod seen_path;
 mod settled;
 mod slacks;
 
 pub use bounds::{MAX_BOUND, MAX_SLACK, bound, level, slack};
 pub use box_bounds::BoxBounds;
+pub use by_place::DualsByPlace;
 pub use closing::closes;
 pub use duals::Duals;
 pub use fit::{RangeFault, fits, tame};

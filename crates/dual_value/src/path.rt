@@ -8,6 +8,7 @@ use instance_store::NoMemory;
 use location_terms::Decision;
 use std::alloc::Global;
 use std::marker::Model;
+use std::ops::DerefSlice;
 
 /// The decisions from the root of a tree to a box of plans, in order.
 #[derive(Debug, Drop)]
@@ -137,7 +138,20 @@ impl Path {
     }
 }
 
-fn is_on_lane(step: &Decision) -> bool
+impl DerefSlice for Path {
+    type Elem = Decision;
+
+    ghost deref_gives = { λ path steps. steps ≡ path };
+
+    fn deref(&self) -> &[Decision]
+        ensures { result.now ≡ self.now }
+    {
+        self.steps.as_slice()
+    }
+}
+
+// Whether the step takes lanes away.
+pub(crate) fn is_on_lane(step: &Decision) -> bool
     ensures { result ≡ is_lane_step step.now }
 {
     match step {

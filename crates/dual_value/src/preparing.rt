@@ -94,7 +94,7 @@ pub(crate) fn demand_ends(
     requires { AreStates inst.now path.now states.now }
     ensures { IfOk result (λ ends. AreDemandEnds inst.now path.now ends.items) }
 {
-    let torn = is_torn(inst, path);
+    let torn = is_torn(inst, path.as_slice());
     let mut ends = Vec::with_capacity(alloc, inst.sites())?;
     for site in 0..inst.sites() {
         ends.push(demand_end(torn, states[site], inst.cap(site)))?;

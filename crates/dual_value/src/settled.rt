@@ -7,7 +7,6 @@ ghost use Rattle.location_terms.specs.Box.{closes_site, opens_site, bars_lane, i
 ghost use Rattle.dual_value.specs.SiteState.{IsState, LeavesWhole};
 ghost use Rattle.dual_value.specs.Lanes.{named_site};
 
-use crate::Path;
 use instance_store::{CustId, Instance, SiteId};
 use location_terms::Decision;
 
@@ -23,7 +22,7 @@ pub enum SiteState {
 }
 
 /// What the path settles of the site at place `site`.
-pub fn site_state(inst: &Instance, path: &Path, site: usize) -> SiteState
+pub fn site_state(inst: &Instance, path: &[Decision], site: usize) -> SiteState
     requires { site < length inst.now.sites }
     ensures { IsState path.now (site_at inst.now site) result }
 {
@@ -37,7 +36,7 @@ pub fn site_state(inst: &Instance, path: &Path, site: usize) -> SiteState
 }
 
 /// Whether the path lets the site at place `site` serve the customer at place `cust`.
-pub fn allowed(inst: &Instance, path: &Path, site: usize, cust: usize) -> bool
+pub fn allowed(inst: &Instance, path: &[Decision], site: usize, cust: usize) -> bool
     requires site { site < length inst.now.sites }
     requires customer { cust < length inst.now.customers }
     ensures { result ≡ is_allowed inst.now path.now (site_at inst.now site) (customer_at inst.now cust) }
@@ -49,13 +48,13 @@ pub fn allowed(inst: &Instance, path: &Path, site: usize, cust: usize) -> bool
 }
 
 /// Whether some site is both called for and closed, so that no feasible plan keeps to the path.
-pub fn is_torn(inst: &Instance, path: &Path) -> bool
+pub fn is_torn(inst: &Instance, path: &[Decision]) -> bool
     ensures exact { result ≡ is_torn inst.now path.now }
     ensures valid { IsValid inst.now }
 {
     // An instance is valid, so that an id stands at one place.
     let _sites = inst.sites();
-    for step in path.as_slice() {
+    for step in path {
         if is_torn_by(inst, path, step) {
             return true;
         }
@@ -64,7 +63,7 @@ pub fn is_torn(inst: &Instance, path: &Path) -> bool
 }
 
 // Whether the site that the step names is in the instance, called for and closed.
-fn is_torn_by(inst: &Instance, path: &Path, step: &Decision) -> bool
+fn is_torn_by(inst: &Instance, path: &[Decision], step: &Decision) -> bool
     requires { IsValid inst.now }
     ensures torn { IsTrue result → IsTrue (is_torn inst.now path.now) }
     ensures whole { OnFalse result (LeavesWhole inst.now path.now step.now) }
@@ -90,7 +89,7 @@ pub(crate) fn named_site(step: &Decision) -> Option<SiteId>
 
 // Whether the lane, if there is one, is left by the steps on lanes and carries the customer's
 // demand.
-pub(crate) fn is_unbarred(inst: &Instance, path: &Path, site: usize, cust: usize) -> bool
+pub(crate) fn is_unbarred(inst: &Instance, path: &[Decision], site: usize, cust: usize) -> bool
     requires site { site < length inst.now.sites }
     requires customer { cust < length inst.now.customers }
     ensures { result ≡ (not (list_any (bars_lane (site_at inst.now site).id (customer_at inst.now cust).id) path.now) && holds_demand (site_at inst.now site).cap (customer_at inst.now cust).demand) }
@@ -104,41 +103,36 @@ pub(crate) fn is_unbarred(inst: &Instance, path: &Path, site: usize, cust: usize
     }
 }
 
-fn is_barred(path: &Path, site: SiteId, cust: CustId) -> bool
+fn is_barred(path: &[Decision], site: SiteId, cust: CustId) -> bool
     ensures { result ≡ list_any (bars_lane site cust) path.now }
 {
-    if path.is_of_sites() {
-        return false;
-    }
-    path.as_slice()
-        .iter()
-        .any(|step| bars_lane(site, cust, step))
+    path.iter().any(|step| bars_lane(site, cust, step))
 }
 
-pub(crate) fn is_closed(inst: &Instance, path: &Path, site: usize) -> bool
+pub(crate) fn is_closed(inst: &Instance, path: &[Decision], site: usize) -> bool
     requires { site < length inst.now.sites }
     ensures { result ≡ is_closed path.now (site_at inst.now site) }
 {
     inst.status(site).must_close() || has_closed(path, inst.site_id(site))
 }
 
-fn is_called_for(inst: &Instance, path: &Path, site: usize) -> bool
+fn is_called_for(inst: &Instance, path: &[Decision], site: usize) -> bool
     requires { site < length inst.now.sites }
     ensures { result ≡ is_called_for path.now (site_at inst.now site) }
 {
     inst.status(site).must_open() || has_opened(path, inst.site_id(site))
 }
 
-fn has_closed(path: &Path, site: SiteId) -> bool
+fn has_closed(path: &[Decision], site: SiteId) -> bool
     ensures { result ≡ list_any (closes_site site) path.now }
 {
-    path.as_slice().iter().any(|step| closes_site(site, step))
+    path.iter().any(|step| closes_site(site, step))
 }
 
-fn has_opened(path: &Path, site: SiteId) -> bool
+fn has_opened(path: &[Decision], site: SiteId) -> bool
     ensures { result ≡ list_any (opens_site site) path.now }
 {
-    path.as_slice().iter().any(|step| opens_site(site, step))
+    path.iter().any(|step| opens_site(site, step))
 }
 
 fn closes_site(site: SiteId, step: &Decision) -> bool

@@ -1,7 +1,10 @@
 pub mod Gathered
 pub mod Ranked
 pub mod Above
-pub mod Blocks
+pub mod Lists
 pub mod Walks
 pub mod Counts
 pub mod Spread
+pub mod Placing
+pub mod Replaced
+pub mod Changed

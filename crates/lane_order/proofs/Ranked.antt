@@ -8,7 +8,7 @@ use Rattle.std.proofs.lemmas.List.Sorted.{ranks_by, sorted_far, All-permutation,
 use Rattle.std.proofs.lemmas.Map.Keys.{apart_from_distinct, IsDistinct-IsPermutation}
 use Rattle.std.specs.Cmp.{nat_cmp_is}
 use Rattle.std.specs.List.{IsDistinct}
-use Rattle.std.specs.List.Sorted.{IsStrictlyIncreasing, IsNonDecreasingBy}
+use Rattle.std.specs.List.Sorted.{IsStrictlyIncreasing}
 use Rattle.std.specs.Ordering.{nat_cmp, ordering_then, is_lt}
 use Rattle.std.specs.declared.cmp.Ordering.TheVariants.{Less, Equal}
 use Rattle.location_terms.specs.Instance.{Instance, IsValid, site_at, customer_at, lane, site_ids}
@@ -59,20 +59,10 @@ module _ (I : Instance) (j : ℕ) (lanes : List PlacedLane) (of : AreSortedLanes
   not_less : (i k : ℕ) (d : PlacedLane) → i ≤ k → k < length lanes → is_lt (placed_cmp (get_or lanes k d) (get_or lanes i d)) ≡ false
   not_less i k d below within = sorted_far (λ a b. is_lt (placed_cmp a b)) (ranks_by pair_cmp-total (λ (l : PlacedLane). (l.cost, l.site))) lanes of.sorted i k d below within
 
-  lanes_ascend : (i k : ℕ) (d : PlacedLane) → i < k → k < length lanes → ((get_or lanes i d).cost < (get_or lanes k d).cost) ⊎ (((get_or lanes i d).cost ≡ (get_or lanes k d).cost) × ((get_or lanes i d).site < (get_or lanes k d).site))
+  pub lanes_ascend : (i k : ℕ) (d : PlacedLane) → i < k → k < length lanes → ((get_or lanes i d).cost < (get_or lanes k d).cost) ⊎ (((get_or lanes i d).cost ≡ (get_or lanes k d).cost) × ((get_or lanes i d).site < (get_or lanes k d).site))
   lanes_ascend i k d below within =
       after (get_or lanes i d).cost (get_or lanes k d).cost (get_or lanes i d).site (get_or lanes k d).site (not_less i k d (omega arith) within)
       (eqb-false _ _ (apart_from_distinct same_site lanes i k d lanes_differ below within))
-
-  pub costs_rise : IsNonDecreasingBy (λ l. l.cost) lanes
-  costs_rise i k d up within =
-      elim (cases_order i k) [
-        | inl same ↦ subst (λ m. (get_or lanes i d).cost ≤ (get_or lanes m d).cost) same (omega arith)
-        | inr other ↦ elim other [
-          | inl below ↦ elim (lanes_ascend i k d below within) [ inl less ↦ omega (arith, less) | inr tie ↦ omega (arith, tie.0) ]
-          | inr above ↦ absurd (omega (arith, above, up))
-        ]
-      ]
 
   module _ (rise : IsStrictlyIncreasing (site_ids I)) where
     at_place : (l : PlacedLane) → l.site < length I.sites → slice_index (site_ids I) l.site ≡ (site_at I l.site).id

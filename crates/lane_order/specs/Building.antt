@@ -1,12 +1,12 @@
+-- For private functions alone: no public contract cites this page.
 -- The lanes while an order is made, customer after customer.
-use Rattle.std.specs.Prelude.{◌≡◌, ℕ, zero, suc, ◌<◌, ◌≤◌, List, AllPairs, [], ◌∷◌, ◌++◌, length, take, Option, None, Some, slice_index_or, IsPermutation}
+use Rattle.std.specs.Prelude.{◌≡◌, ℕ, zero, suc, ◌<◌, List, [], ◌∷◌, ◌++◌, length, Option, None, Some, slice_index_or, IsPermutation}
 use Rattle.std.specs.List.Sorted.{IsSorted}
 use Rattle.std.specs.Ordering.{nat_cmp, ordering_then}
 use Rattle.std.specs.declared.cmp.Ordering.{Ordering}
 use Rattle.location_terms.specs.Instance.{Instance, site_at, customer_at, lane}
-use Rattle.lane_order.specs.Stored.{part}
+use Rattle.lane_order.specs.Listed.{Listed}
 use Rattle.lane_order.specs.declared.order.PlacedLane.{PlacedLane}
-use Rattle.lane_order.specs.declared.order.Block.{Block}
 
 -- the lane of this cost from the site at a place, where there is one
 abbrev pub placed : Option ℕ → ℕ → List PlacedLane
@@ -26,20 +26,7 @@ pub record AreSortedLanes (I : Instance) (j : ℕ) (lanes : List PlacedLane) : T
   pub all : IsPermutation (first_lanes I j (length I.sites)) lanes
   pub sorted : IsSorted placed_cmp lanes
 
--- the block has the lanes to the customer at place j
-pub record IsBlockOf (I : Instance) (j : ℕ) (lanes : List PlacedLane) (b : Block) : Type 0 where
-  pub ordered : b.start ≤ b.end
-  pub within : b.end ≤ length lanes
-  pub sorted : AreSortedLanes I j (part lanes b)
-
--- the block has the lanes to the customer at place j, behind those that were there, which stay
-pub record IsAdded (I : Instance) (j : ℕ) (old new : List PlacedLane) (b : Block) : Type 0 where
-  pub kept : take (length old) new ≡ old
-  pub behind : length old ≤ b.start
-  pub added : IsBlockOf I j new b
-
--- a block for each customer, one behind the other
-pub record AreBlocks (I : Instance) (lanes : List PlacedLane) (blocks : List Block) : Type 0 where
-  pub count : length blocks ≡ length I.customers
-  pub each : (j : ℕ) (d : Block) → j < length I.customers → IsBlockOf I j lanes (slice_index_or blocks j d)
-  pub behind : AllPairs (λ a b. a.end ≤ b.start) blocks
+-- for each customer the lanes to it in order
+pub record AreListsOf (I : Instance) (lists : List Listed) : Type 0 where
+  pub count : length lists ≡ length I.customers
+  pub each : (j : ℕ) (d : Listed) → j < length I.customers → AreSortedLanes I j (slice_index_or lists j d).lanes

@@ -3,10 +3,12 @@
 use Rattle.std.specs.Prelude.{◌≡◌, ◌⊎◌, ◌↔◌, ℕ, ◌<◌, nat_lt, List, [], length, AllPairs, Contains, Option, Some, find, slice_get, slice_index_or}
 use Rattle.location_terms.specs.Instance.{Instance, site_ids, customer_at, lane}
 
--- the ids of the sites by place, and for each customer the lanes to it, each a pair of its cost and its site's id
+-- the ids of the sites by place, for each customer the lanes to it, each a pair of its cost and its site's id, and for how many
+-- more lanes to each customer there is room
 pub record Order : Type 0 where
   pub sites : List ℕ
   pub lanes : List (List (ℕ × ℕ))
+  pub spare : ℕ
 
 -- a lane comes before another if it costs less, or as much and its site's id is less
 abbrev pub IsBefore : ℕ × ℕ → ℕ × ℕ → Type 0

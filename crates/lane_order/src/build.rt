@@ -1,12 +1,10 @@
 //! How the order of an instance is made.
-ghost use Rattle.std.specs.Prelude.{◌≡◌, ◌<◌, ◌≤◌, ◌*◌, ◌++◌, length, IfOk};
+ghost use Rattle.std.specs.Prelude.{◌≡◌, ◌<◌, ◌++◌, length, IfOk};
 ghost use Rattle.location_terms.specs.Instance.{IsValid, site_ids};
-ghost use Rattle.location_terms.specs.declared.limits.TheConstants.{MAX_SITES, MAX_CUSTOMERS};
-ghost use Rattle.lane_order.specs.Building.{first_lanes, IsAdded, AreBlocks};
+ghost use Rattle.lane_order.specs.Building.{first_lanes, AreSortedLanes, AreListsOf};
 
-use crate::order::{Block, PlacedLane};
-use crate::{Instance, NoMemory, SiteId};
-use instance_store::LaneRow;
+use crate::lane_list::LaneList;
+use crate::{Instance, NoMemory, PlacedLane, SiteId};
 use std::alloc::Global;
 
 /// The ids of the sites, by place.
@@ -21,60 +19,28 @@ pub(crate) fn site_ids(alloc: Global, inst: &Instance) -> Result<Vec<SiteId>, No
     Ok(ids)
 }
 
-/// The lanes to each customer in order, one customer after the other, and where each one's are.
-pub(crate) fn sorted_lanes(
-    alloc: Global,
-    inst: &Instance,
-) -> Result<(Vec<PlacedLane>, Vec<Block>), NoMemory>
-    ensures { IfOk result (λ r. AreBlocks inst.now r.0.items r.1.items) }
+/// The lanes to each customer in order.
+pub(crate) fn lane_lists(alloc: Global, inst: &Instance) -> Result<Vec<LaneList>, NoMemory>
+    ensures { IfOk result (λ lists. AreListsOf inst.now lists.items) }
 {
-    let mut lanes = Vec::with_capacity(alloc, lane_count(inst))?;
-    let mut blocks = Vec::with_capacity(alloc, inst.custs())?;
+    let mut lists = Vec::with_capacity(alloc, inst.custs())?;
+    let mut lanes = Vec::with_capacity(alloc, inst.sites())?;
     for cust in 0..inst.custs() {
-        blocks.push(add_customer(inst, cust, &mut lanes)?)?;
+        gather(inst, cust, &mut lanes)?;
+        lists.push(LaneList::from_slice(alloc, &lanes)?)?;
     }
-    Ok((lanes, blocks))
+    Ok(lists)
 }
 
-// How many lanes there are.
-fn lane_count(inst: &Instance) -> usize
-    ensures { result ≤ MAX_SITES * MAX_CUSTOMERS }
-{
-    let mut count = 0;
-    for site in 0..inst.sites() {
-        count += row_count(inst.lanes(site));
-    }
-    count
-}
-
-fn row_count(lanes: &LaneRow) -> usize
-    ensures { result ≤ length lanes.now }
-{
-    let mut count = 0;
-    for cust in 0..lanes.len() {
-        if lanes.get(cust).is_some() {
-            count += 1;
-        }
-    }
-    count
-}
-
-// The lanes to the customer go behind those that are there.
-fn add_customer(
-    inst: &Instance,
-    cust: usize,
-    lanes: &mut Vec<PlacedLane>,
-) -> Result<Block, NoMemory>
+// The lanes to the customer in order, in the place of those that were there.
+fn gather(inst: &Instance, cust: usize, lanes: &mut Vec<PlacedLane>) -> Result<(), NoMemory>
     requires { cust < length inst.now.customers }
-    ensures { IfOk result (IsAdded inst.now cust lanes.old.items lanes.new.items) }
+    ensures { IfOk result (λ _. AreSortedLanes inst.now cust lanes.new.items) }
 {
-    let start = lanes.len();
+    lanes.clear();
     push_lanes(inst, cust, lanes)?;
-    lanes[start..].sort_unstable();
-    Ok(Block {
-        start,
-        end: lanes.len(),
-    })
+    lanes.sort_unstable();
+    Ok(())
 }
 
 // The lanes to the customer in the order of the sites.

@@ -3,6 +3,7 @@
 #![tactic(auto)]
 
 mod build;
+mod lane_list;
 mod order;
 
 pub use instance_store::{Instance, NoMemory};

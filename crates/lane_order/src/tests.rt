@@ -1,3 +1,6 @@
+ghost use Rattle.std.specs.Prelude.{◌<◌, length};
+ghost use Rattle.lane_order.specs.Order.{IsOrderOf};
+
 use super::*;
 use example_instances::{customer, site, two_sites};
 use instance_store::LaneRow;
@@ -88,5 +91,52 @@ fn finds_the_next_cost(rt: HostRuntime) -> Result<(), Fail> {
     assert!(rt; has_next(&order, 0, 2, Some((7, 3))) && has_next(&order, 0, 6, Some((7, 3))));
     assert!(rt; has_next(&order, 0, 7, None) && has_next(&order, 0, u64::MAX, None));
     assert!(rt; has_next(&order, 1, 3, Some((4, 5))) && has_next(&order, 1, 4, None));
+    Ok(())
+}
+
+// Replaces a lane that the instance has.
+fn replace(
+    order: &mut LaneOrder,
+    inst: &Instance,
+    site: usize,
+    cust: usize,
+    cost: Option<u64>,
+) -> Result<(), NoMemory>
+    requires order { IsOrderOf order.old inst.now }
+    requires site { site < length inst.now.sites }
+    requires customer { cust < length inst.now.customers }
+{
+    // An instance is valid, so that it has few sites.
+    let _sites = inst.sites();
+    let old = inst.lane(site, cust);
+    order.reserve(1)?;
+    order.set_lane(cust, site as u32, old, cost);
+    Ok(())
+}
+
+// The order of the instance with the lane to its first customer from the site at this place replaced.
+fn with_lane(
+    alloc: Global,
+    inst: &Instance,
+    site: usize,
+    cost: Option<u64>,
+) -> Result<LaneOrder, NoMemory> {
+    let mut order = LaneOrder::of(alloc, inst)?;
+    if site < inst.sites() && inst.custs() > 0 {
+        replace(&mut order, inst, site, 0, cost)?;
+    }
+    Ok(order)
+}
+
+#[test]
+fn replaces_lanes(rt: HostRuntime) -> Result<(), Fail> {
+    let inst = tied(rt.alloc())?;
+    let order = with_lane(rt.alloc(), &inst, 0, Some(1))?;
+    assert!(rt; has_lanes(&order, 0, [Some((1, 3)), Some((2, 5)), Some((2, 9)), None]));
+    let order = with_lane(rt.alloc(), &inst, 2, Some(7))?;
+    assert!(rt; has_lanes(&order, 0, [Some((2, 5)), Some((7, 3)), Some((7, 9)), None]));
+    let order = with_lane(rt.alloc(), &inst, 1, None)?;
+    assert!(rt; has_lanes(&order, 0, [Some((2, 9)), Some((7, 3)), None, None]));
+    assert!(rt; has_lanes(&order, 1, [Some((4, 5)), None, None, None]));
     Ok(())
 }

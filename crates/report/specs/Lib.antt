@@ -1,2 +1,4 @@
 pub mod DualsText
 pub mod PlanText
+pub mod SiteTable
+pub mod Json

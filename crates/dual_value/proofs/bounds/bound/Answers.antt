@@ -8,12 +8,12 @@ use Rattle.dual_value.proofs.Sizes.{kept, difference_sum_kept}
 use Rattle.dual_value.proofs.bounds.bound.Goals as goal
 
 pub returns-clause-exact : goal.returns-clause-exact
-returns-clause-exact c =
+returns-clause-exact g c =
     let I = c.args.inst.now in
-    let d = c.args.duals.now in
+    let d = g.D.DualsByPlace.numbers c.args.duals.now in
     let nu : to_z w128 (of_z w128 c.nu.result) ≡ d.nu = rw c.nu.ensures (kept d.nu MAX_VALUE c.requires.in_limits.count_price (omega arith)) in
     let price : c.count_price.result ≡ count_price I d.nu = c.count_price.ensures.exact ∙ ap (count_price I) nu in
-    let same : (c.value_total.result -ℤ c.count_price.result) +ℤ c.share_total.result ≡ bound_of I c.args.path.now d = rw (c.value_total.ensures.exact, price, c.share_total.ensures.exact) refl in
+    let same : (c.value_total.result -ℤ c.count_price.result) +ℤ c.share_total.result ≡ bound_of I c.args.path.now d = rw (c.value_total.ensures.exact, price, c.share_total.ensures.exact, c.seen-path.ensures.steps) refl in
     difference_sum_kept c.value_total.result c.count_price.result c.share_total.result (MAX_CUSTOMERS * MAX_VALUE) (MAX_SITES * MAX_VALUE) (MAX_SITES * MAX_SLACK)
     c.value_total.ensures.small c.count_price.ensures.small c.share_total.ensures.small (omega arith)
     ∙ same

@@ -1,4 +1,4 @@
-use Rattle.std.proofs.Common.{◌≡◌, ◌≤◌, ◌<◌, ◌*◌, ◌∙◌, true, sym, ap, arith, ℤ, List, pos, length, slice_index_or}
+use Rattle.std.proofs.Common.{◌≡◌, ◌≤◌, ◌<◌, ◌*◌, ◌∙◌, true, sym, arith, length}
 use mir.Syntax.{w128}
 use mir.Val.{to_z, of_z}
 use Rattle.std.specs.Int.RustNames.{unsigned_abs}
@@ -13,16 +13,16 @@ use Rattle.dual_value.proofs.bounds.paid_from.Goals as goal
 use Rattle.dual_value.proofs.bounds.paid_from.Goals.{then-not-is_dear, else-not-is_dear}
 
 pub loop-cust-init : goal.loop-cust-init
-loop-cust-init c = record { exact = sym (total_none _); low = omega (arith, ints); high = omega (arith, ints) }
+loop-cust-init g c = record { exact = sym (total_none _); low = omega (arith, ints); high = omega (arith, ints) }
 
 pub loop-cust-preserved : goal.loop-cust-preserved
-loop-cust-preserved c =
+loop-cust-preserved g c =
     let I = c.args.inst.now in
-    let path = c.args.path.now in
-    let d = c.args.duals.now in
+    let path = c.args.path.now.steps.now in
+    let d = g.D.DualsByPlace.numbers c.args.duals.now in
     let j = c.loop-cust.cust in
-    let value = slice_index_or c.values-values.result.now j (pos 0) in
-    let at : value ≡ v_at d j = ap (λ (xs : List ℤ). slice_index_or xs j (pos 0)) c.values-values.ensures in
+    let value = c.v-value.result in
+    let at : value ≡ v_at d j = c.v-value.ensures in
     let inside : j < length I.customers = omega (arith, c.loop-cust-test.true, c.len-cust-end.ensures, c.lanes-lanes.ensures.length) in
     let size : unsigned_abs (v_at d j) ≤ MAX_VALUE = value_small I path d c.requires.valid c.requires.fit j inside in
     let bits : to_z w128 (of_z w128 value) ≡ v_at d j = rw at (kept (v_at d j) MAX_VALUE size (omega arith)) in

@@ -7,11 +7,11 @@ use Rattle.dual_value.proofs.Sizes.{total_none, total_step, size_step}
 use Rattle.dual_value.proofs.bounds.share_total.Goals as goal
 
 pub loop-site-init : goal.loop-site-init
-loop-site-init c = record { exact = sym (total_none _); small = omega arith }
+loop-site-init g c = record { exact = sym (total_none _); small = omega arith }
 
 pub loop-site-preserved : goal.loop-site-preserved
-loop-site-preserved c =
-    let f = share_of c.args.inst.now c.args.path.now c.args.duals.now in
+loop-site-preserved g c =
+    let f = share_of c.args.inst.now c.args.path.now.steps.now (g.D.DualsByPlace.numbers c.args.duals.now) in
     let i = c.loop-site.site in
     let sum = to_z w128 c.loop-site.sum-bits in
     let few = c.requires.valid.sizes.few_sites in

@@ -2,7 +2,7 @@ use Rattle.std.proofs.Common.{◌≡◌, ◌∙◌, ◌++◌, take, drop, length
 use Rattle.location_terms.specs.Instance.{customer_at}
 use Rattle.dual_value.specs.LaneSteps.{AreChains}
 use Rattle.dual_value.proofs.Chains.{chain_of_sites}
-use Rattle.dual_value.proofs.Settling.{written_whole}
+use Rattle.lane_order.proofs.Lists.{written_whole}
 use Rattle.dual_value.proofs.lane_steps.lane_steps.Goals as goal
 
 pub returns-then-is_of_sites : goal.returns-then-is_of_sites

@@ -1,4 +1,4 @@
-use Rattle.std.proofs.Common.{sym, subst, arith}
+use Rattle.std.proofs.Common.{sym, arith}
 use Rattle.std.specs.List.{All}
 use Rattle.location_terms.specs.Box.{Path}
 use Rattle.dual_value.specs.SiteState.{LeavesWhole}
@@ -9,6 +9,5 @@ pub returns-clause-exact : goal.returns-clause-exact
 returns-clause-exact c =
     let I = c.args.inst.now in
     let path : Path = c.args.path.now in
-    let steps : Path = c.as_slice-step-items.result.now in
-    let all : All (LeavesWhole I path) steps = λ k d b. c.loop-step.invariant k d (omega arith) in
-    sym (whole_from_steps I path (subst (All (LeavesWhole I path)) c.as_slice-step-items.ensures all))
+    let all : All (LeavesWhole I path) path = λ k d b. c.loop-step.invariant k d (omega arith) in
+    sym (whole_from_steps I path all)

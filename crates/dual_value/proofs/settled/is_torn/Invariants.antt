@@ -4,4 +4,4 @@ use Rattle.dual_value.specs.SiteState.{LeavesWhole}
 use Rattle.dual_value.proofs.settled.is_torn.Given as goal
 
 abbrev pub invariant-loop-step : goal.invariant-loop-step
-invariant-loop-step l = (k : ℕ) (d : Decision) → k < l.step-index → LeavesWhole l.inst l.path (get_or l.step-items k d)
+invariant-loop-step l = (k : ℕ) (d : Decision) → k < l.step-index → LeavesWhole l.inst l.path (get_or l.path k d)
