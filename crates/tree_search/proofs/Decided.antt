@@ -3,13 +3,13 @@ use Rattle.std.proofs.Common.{◌≡◌, ℕ, zero, suc, ◌+◌, ◌*◌, ◌^�
 use Rattle.std.specs.Prelude.{IsTrue, ◌↔◌, IfSome, not, filter, slice_get, All, Contains}
 use Rattle.std.proofs.lemmas.Bool.{both_ways}
 use Rattle.std.proofs.lemmas.List.Elements.{All-nil, All-cons, All-contains, filter-append}
-use Rattle.location_terms.specs.declared.decision.Decision.TheVariants.{Opened, Closed, Yes, No}
 use Rattle.location_terms.specs.Instance.{Instance}
 use Rattle.location_terms.specs.Plan.{Plan}
 use Rattle.location_terms.specs.Box.{Path}
+use Rattle.location_terms.specs.Split.{first_step, second_step}
 use Rattle.location_terms.specs.Bound.{Duals, bound_of}
 use Rattle.location_terms.specs.Fit.{Closes}
-use Rattle.location_terms.specs.Tree.{Node, Leaf, OnSite, OnLane, Tree, leaves_below, leaves_of, size_of, nodes_of}
+use Rattle.location_terms.specs.Tree.{Node, Leaf, Fork, Tree, leaves_below, leaves_of, size_of, nodes_of}
 use Rattle.tree_search.specs.Grown.{IsGrownBelow, IsGrownFrom}
 use Rattle.tree_search.specs.Answer.{cost_in, most_decisions, AreHeld, IsAnswerTo, IsBracketCause, IsDecided}
 use Rattle.tree_search.specs.declared.answer.Answer.{Answer}
@@ -71,32 +71,18 @@ module _ (I : Instance) (target : Option ℕ) where
   leaf_grows d new path (false ∷ []) tells (inl stays) = absurd (both_ways false refl (tells.0.1 stays.0))
   leaf_grows d new path (false ∷ []) tells (inr worked) = record { sized = omega (arith, made_within I target path d new path worked.1); same = λ none. absurd (omega (arith, none)) }
 
-  split_grows : (N : Node → Node → Node) (a b a_now b_now : Node) → ((x y : Node) → size_of (N x y) ≡ 1 + size_of x + size_of y) → (held first second : List Bool) → held ≡ first ++ second
-      → Grows room a a_now (open_leaves first) → Grows room b b_now (open_leaves second) → Grows room (N a b) (N a_now b_now) (open_leaves held)
-  split_grows N a b a_now b_now size held first second parts one two =
-      let sum : open_leaves held ≡ open_leaves first + open_leaves second = ap open_leaves parts ∙ ap length (filter-append not first second) ∙ length-append (filter not first) (filter not second) in
-      let sized : (1 + size_of a_now + size_of b_now) + 2 * open_leaves held ≤ (1 + size_of a + size_of b) + open_leaves held * room
-      = parts_sized room (size_of a_now) (size_of b_now) (size_of a) (size_of b) (open_leaves first) (open_leaves second) (open_leaves held) sum one.sized two.sized in
-      record {
-        sized = omega (arith, sized, size a b, size a_now b_now);
-        same = λ none. ap (λ x. N x b_now) (one.same (omega (arith, none, sum))) ∙ ap (N a) (two.same (omega (arith, none, sum)));
-      }
-
   grows : (old new : Node) (path : Path) (held : List Bool) → Tells I target (leaves_below path old) held → IsGrownBelow I target path old new → Grows room old new (open_leaves held)
   grows (Leaf d) new path held tells grown = leaf_grows d new path held tells grown
-  grows (OnSite s a b) (OnSite s_now a_now b_now) path held tells grown =
-      let parts = parted I target (leaves_below (path ++ Closed s ∷ []) a) (leaves_below (path ++ Opened s ∷ []) b) held tells in
-      subst (λ n. Grows room (OnSite s a b) (OnSite n a_now b_now) (open_leaves held)) grown.0
-      (split_grows (OnSite s) a b a_now b_now (λ x y. refl) held parts.0 parts.1 parts.2 (grows a a_now (path ++ Closed s ∷ []) parts.0 parts.3 grown.1) (grows b b_now (path ++ Opened s ∷ []) parts.1 parts.4 grown.2))
-  grows (OnLane s c a b) (OnLane s_now c_now a_now b_now) path held tells grown =
-      let parts = parted I target (leaves_below (path ++ No s c ∷ []) a) (leaves_below (path ++ Yes s c ∷ []) b) held tells in
-      subst (λ n. Grows room (OnLane s c a b) (OnLane n c_now a_now b_now) (open_leaves held)) grown.0
-      (subst (λ n. Grows room (OnLane s c a b) (OnLane s n a_now b_now) (open_leaves held)) grown.1
-      (split_grows (OnLane s c) a b a_now b_now (λ x y. refl) held parts.0 parts.1 parts.2 (grows a a_now (path ++ No s c ∷ []) parts.0 parts.3 grown.2) (grows b b_now (path ++ Yes s c ∷ []) parts.1 parts.4 grown.3)))
-  grows (OnSite s a b) (Leaf d) path held tells grown = absurd grown
-  grows (OnSite s a b) (OnLane s_now c_now a_now b_now) path held tells grown = absurd grown
-  grows (OnLane s c a b) (Leaf d) path held tells grown = absurd grown
-  grows (OnLane s c a b) (OnSite s_now a_now b_now) path held tells grown = absurd grown
+  grows (Fork split a b) (Leaf d) path held tells grown = absurd grown
+  grows (Fork split a b) (Fork split_now a_now b_now) path held tells grown =
+      let parts = parted I target (leaves_below (path ++ first_step split ∷ []) a) (leaves_below (path ++ second_step split ∷ []) b) held tells in
+      let one = grows a a_now (path ++ first_step split ∷ []) parts.0 parts.3 grown.1 in
+      let two = grows b b_now (path ++ second_step split ∷ []) parts.1 parts.4 grown.2 in
+      let sum : open_leaves held ≡ open_leaves parts.0 + open_leaves parts.1 = ap open_leaves parts.2 ∙ ap length (filter-append not parts.0 parts.1) ∙ length-append (filter not parts.0) (filter not parts.1) in
+      record {
+        sized = parts_sized room (size_of a_now) (size_of b_now) (size_of a) (size_of b) (open_leaves parts.0) (open_leaves parts.1) (open_leaves held) sum one.sized two.sized;
+        same = λ none. ap (λ s. Fork s a_now b_now) (sym grown.0) ∙ ap (λ x. Fork split x b_now) (one.same (omega (arith, none, sum))) ∙ ap (Fork split a) (two.same (omega (arith, none, sum)));
+      }
 
 module _ (I : Instance) (old : Tree) where
   grown : (target : Option ℕ) (new : Tree) (held : List Bool) → AreHeld I old target held → IsGrownFrom I target old new → Grows (2 ^ (most_decisions I + 1)) old.root new.root (open_leaves held)

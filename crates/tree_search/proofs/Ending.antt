@@ -13,13 +13,16 @@ use Rattle.location_terms.specs.declared.decision.Decision.{Decision}
 use Rattle.location_terms.specs.declared.decision.Decision.TheVariants.{Opened, Closed, Yes, No}
 use Rattle.location_terms.specs.Instance.{Instance, Site, Customer, site_at, customer_at}
 use Rattle.location_terms.specs.Box.{Path, closes_site, opens_site, bars_lane, must_open, must_close, is_closed, is_called_for, is_free, is_torn, is_allowed}
+use Rattle.location_terms.specs.Split.{first_step, second_step}
+use Rattle.location_terms.specs.declared.split.Split.{Split}
+use Rattle.location_terms.specs.declared.split.Split.TheVariants as splits
 use Rattle.location_terms.specs.Bound.{Duals}
-use Rattle.location_terms.specs.Tree.{Node, Leaf, OnSite, OnLane, size_of}
+use Rattle.location_terms.specs.Tree.{Node, Leaf, Fork, size_of}
 use Rattle.dual_ascent.specs.Levels.{site_places, customer_places, servers}
 use Rattle.plan_search.proofs.Among.{place-contained}
 use Rattle.dual_ascent.proofs.Walked.{lane_parts}
 use Rattle.plan_search.proofs.Sums.{sum_by-below}
-use Rattle.tree_search.specs.Made.{has_cap, IsFreeSite, IsOpenLane, IsMade}
+use Rattle.tree_search.specs.Made.{has_cap, IsFreeSite, IsOpenLane, IsOpenSplit, IsMade}
 use Rattle.tree_search.specs.Answer.{most_decisions}
 
 module _ {X : Type 0} where
@@ -288,25 +291,24 @@ module _ (I : Instance) where
   two_children : (a b n : ℕ) → a + 1 ≤ 2 ^ (n + 1) → b + 1 ≤ 2 ^ (n + 1) → (1 + a + b) + 1 ≤ 2 ^ (suc n + 1)
   two_children a b n first second = omega (arith, first, second, twice n)
 
+  -- each child of a split that is due has less left to decide
+  first_less : (path : Path) (split : Split) → IsOpenSplit I path split → left (path ++ first_step split ∷ []) < left path
+  first_less path (splits.Site s) is = fewer_left path (Closed s) (fewer_closed I path s is)
+  first_less path (splits.Lane s c) is = less_without path s c is
+
+  second_less : (path : Path) (split : Split) → IsOpenSplit I path split → left (path ++ second_step split ∷ []) < left path
+  second_less path (splits.Site s) is = fewer_left path (Opened s) (fewer_opened I path s is)
+  second_less path (splits.Lane s c) is = less_using path s c is
+
   -- a tree that was made in a box with at most m decisions left has less than 2 ^ (m + 1) nodes
   made_small : (target : Option ℕ) (old_path : Path) (old : Duals) (t : Node) (path : Path) (m : ℕ) → left path ≤ m → IsMade I target old_path old path t → size_of t + 1 ≤ 2 ^ (m + 1)
   made_small target old_path old (Leaf d) path m few made = omega (arith, two_at_least m)
-  made_small target old_path old (OnSite s closed opened) path zero few made =
-      let less = fewer_left path (Closed s) (fewer_closed I path s made.1) in absurd (omega (arith, few, less))
-  made_small target old_path old (OnSite s closed opened) path (suc n) few made =
-      let first_less = fewer_left path (Closed s) (fewer_closed I path s made.1) in
-      let second_less = fewer_left path (Opened s) (fewer_opened I path s made.1) in
-      two_children (size_of closed) (size_of opened) n
-      (made_small target old_path old closed (path ++ Closed s ∷ []) n (omega (arith, few, first_less)) made.2)
-      (made_small target old_path old opened (path ++ Opened s ∷ []) n (omega (arith, few, second_less)) made.3)
-  made_small target old_path old (OnLane s c without using) path zero few made =
-      let less = less_without path s c made.1 in absurd (omega (arith, few, less))
-  made_small target old_path old (OnLane s c without using) path (suc n) few made =
-      let first_less = less_without path s c made.1 in
-      let second_less = less_using path s c made.1 in
-      two_children (size_of without) (size_of using) n
-      (made_small target old_path old without (path ++ No s c ∷ []) n (omega (arith, few, first_less)) made.2)
-      (made_small target old_path old using (path ++ Yes s c ∷ []) n (omega (arith, few, second_less)) made.3)
+  made_small target old_path old (Fork split first second) path zero few made =
+      let less = first_less path split made.0.1 in absurd (omega (arith, few, less))
+  made_small target old_path old (Fork split first second) path (suc n) few made =
+      two_children (size_of first) (size_of second) n
+      (made_small target old_path old first (path ++ first_step split ∷ []) n (omega (arith, few, first_less path split made.0.1)) made.1)
+      (made_small target old_path old second (path ++ second_step split ∷ []) n (omega (arith, few, second_less path split made.0.1)) made.2)
 
   -- at most so much is left to decide in any box
   left_within : (path : Path) → left path ≤ most_decisions I

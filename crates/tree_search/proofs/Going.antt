@@ -5,7 +5,6 @@ use Rattle.location_terms.specs.Instance.{Instance}
 use Rattle.location_terms.specs.Box.{Path}
 use Rattle.dual_value.specs.Prepared.{Prepared}
 use Rattle.lane_order.specs.Order.{Order, IsOrderOf}
-use Rattle.dual_steps.specs.Sizes.{Sizes, sizes_of}
 use Rattle.tree_search.specs.Made.{IsMadeScale}
 use Rattle.tree_search.specs.Making.{Making, IsMakerFor, Makes, StaysMaking}
 use Rattle.tree_search.specs.Best.{Best, Improves}
@@ -81,15 +80,12 @@ module _ (b : Prepared) where
       (subst (λ I. BoundCloses (bound_of b.instance b.path s.leaf.best.duals) s.leaf.best.duals.q (cost_in I s.best.plan)) (sym at.instance) closes)
 
 -- What an opened search has: the parts of its value are those of s.
-module _ (I : Instance) (s : Searching) (same : s.best.instance ≡ I) (order : Order) (best : Best) (leaf : Making) (helpers : Sizes) (has : IsSearch order best leaf helpers) (is : (let t : Searching = record { best = best; leaf = leaf } in t) ≡ s) where
+module _ (I : Instance) (s : Searching) (same : s.best.instance ≡ I) (order : Order) (best : Best) (leaf : Making) (has : IsSearch order best leaf) (is : (let t : Searching = record { best = best; leaf = leaf } in t) ≡ s) where
   pub instance_in : best.instance ≡ I
   instance_in = ap (λ (x : Searching). x.best.instance) is ∙ same
 
   pub order_in : IsOrderOf order I
   order_in = subst (IsOrderOf order) instance_in has.order
-
-  pub helpers_in : helpers ≡ sizes_of I
-  helpers_in = has.sizes ∙ ap sizes_of instance_in
 
   pub maker_in : IsMakerFor I leaf
   maker_in = subst (λ (J : Instance). IsMakerFor J leaf) instance_in has.maker
@@ -110,9 +106,8 @@ module _ (b : Prepared) (s : Searching) (at : IsAt b s) (best : Best) (leaf : Ma
       goes_on_leaf b s (let t : Searching = record { best = best; leaf = now } in t) at (ap (λ (x : Searching). x.best) is) (subst (λ (x : Searching). StaysMaking b.instance b.path x.leaf now) is stays)
 
 -- with another plan for the same instance
-pub search_still : (order : Order) (best best' : Best) (leaf : Making) (helpers : Sizes) → IsSearch order best leaf helpers → best'.instance ≡ best.instance → IsSearch order best' leaf helpers
-search_still order best best' leaf helpers has same = record {
+pub search_still : (order : Order) (best best' : Best) (leaf : Making) → IsSearch order best leaf → best'.instance ≡ best.instance → IsSearch order best' leaf
+search_still order best best' leaf has same = record {
   order = subst (IsOrderOf order) (sym same) has.order;
   maker = subst (λ (I : Instance). IsMakerFor I leaf) (sym same) has.maker;
-  sizes = has.sizes ∙ ap sizes_of (sym same);
 }

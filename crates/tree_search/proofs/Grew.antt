@@ -10,22 +10,22 @@ use Rattle.location_terms.specs.declared.decision.Decision.TheVariants.{Opened, 
 use Rattle.location_terms.specs.Instance.{Instance, IsValid, site_ids, customer_ids, site_at, customer_at}
 use Rattle.location_terms.specs.Plan.{Plan}
 use Rattle.location_terms.specs.Box.{Path}
+use Rattle.location_terms.specs.Split.{first_step, second_step, IsSplitAmong}
 use Rattle.location_terms.specs.Bound.{Duals, bound_of}
 use Rattle.location_terms.specs.Fit.{DualsFit}
-use Rattle.location_terms.specs.Tree.{Node, Leaf, Tree, HasLists, nodes_of, size_of}
+use Rattle.location_terms.specs.Tree.{Leaf, Fork, Tree, HasLists, nodes_of}
 use Rattle.dual_value.proofs.Further.{bound_rises, bound_rises_closed}
 use Rattle.plan_search.proofs.Among.{Contains-map}
 use Rattle.plan_search.specs.InBox.{IsPathOf, NamesKnown, IsNoWorse}
-use Rattle.branch_tree.specs.declared.split.Split.{Split}
-use Rattle.branch_tree.specs.declared.split.Split.TheVariants.{Site, Lane}
-use Rattle.branch_tree.specs.Preorder.{IsSound}
-use Rattle.branch_tree.specs.Growing.{Growing, entry_of, first_step, second_step, split_node, leaf_at_work, worked, split_in_two}
+use Rattle.location_terms.specs.declared.split.Split.{Split}
+use Rattle.location_terms.specs.declared.split.Split.TheVariants.{Site, Lane}
+use Rattle.branch_tree.specs.Growing.{Growing, leaf_at_work, worked, split_in_two}
 use Rattle.branch_tree.specs.Built.{IsBuiltOf}
 use Rattle.branch_tree.proofs.Built.{built_leaves, built_with_duals, built_split, built_replaced, built_but_weaker, done_split, done_whole}
-use Rattle.tree_search.specs.Made.{IsMadeLeaf, IsOpenBox}
+use Rattle.tree_search.specs.Made.{IsMadeLeaf, IsOpenBox, IsOpenSplit, IsDueSplit}
 use Rattle.tree_search.specs.Making.{LowersNone}
 use Rattle.tree_search.specs.Answer.{cost_in}
-use Rattle.tree_search.specs.Working.{IsWorked, IsOpenSplit, IsDoneLeaf, IsDueSplit, IsReached, AnySplit, IsGrowing, IsGrownPart, steps_left}
+use Rattle.tree_search.specs.Working.{IsWorked, IsDoneLeaf, IsReached, AnySplit, IsGrowing, IsGrownPart, steps_left}
 use Rattle.tree_search.proofs.Closer.{no_worse_again, closes_still, sought_still}
 use Rattle.tree_search.proofs.LeafPlaces.{all_at, replaced_size}
 
@@ -55,21 +55,17 @@ customer_contained I j b = Contains-map (λ c. c.id) I.customers (customer_at I 
 
 -- A split of a box.
 
-split_size : (s : Split) (a b : Node) → size_of (split_node s a b) ≡ 1 + size_of a + size_of b
-split_size (Site s) a b = omega arith
-split_size (Lane s c) a b = omega arith
-
 module _ (I : Instance) (path : Path) where
   -- the ids that the split names are the instance's
-  split_known : (s : Split) → IsOpenSplit I path s → IsSound (site_ids I) (customer_ids I) (entry_of s)
+  split_known : (s : Split) → IsOpenSplit I path s → IsSplitAmong (site_ids I) (customer_ids I) s
   split_known (Site s) is = subst (Contains (site_ids I)) is.named (site_contained I is.place is.within)
   split_known (Lane s c) is = (subst (Contains (site_ids I)) is.site_named (site_contained I is.site is.site_within), subst (Contains (customer_ids I)) is.customer_named (customer_contained I is.customer is.customer_within))
 
-  first_known : (s : Split) → IsSound (site_ids I) (customer_ids I) (entry_of s) → NamesKnown I (first_step s)
+  pub first_known : (s : Split) → IsSplitAmong (site_ids I) (customer_ids I) s → NamesKnown I (first_step s)
   first_known (Site s) known = known
   first_known (Lane s c) known = known
 
-  second_known : (s : Split) → IsSound (site_ids I) (customer_ids I) (entry_of s) → NamesKnown I (second_step s)
+  pub second_known : (s : Split) → IsSplitAmong (site_ids I) (customer_ids I) s → NamesKnown I (second_step s)
   second_known (Site s) known = known
   second_known (Lane s c) known = known
 
@@ -151,13 +147,13 @@ module _ (I : Instance) (base : Path) (old : Duals) (handed plan plan' : Option 
       after_split = split_in_two g s first e
 
       more_nodes : nodes_of after_split.tree ≡ nodes_of g.tree + 2
-      more_nodes = omega (arith, split_size s (Leaf first) (Leaf e), replaced_size (split_node s (Leaf first) (Leaf e)) path d g.tree.root g.base (g.left - 1) at_work)
+      more_nodes = omega (arith, replaced_size (Fork s (Leaf first) (Leaf e)) path d g.tree.root g.base (g.left - 1) at_work)
 
-      known : IsSound (site_ids I) (customer_ids I) (entry_of s)
+      known : IsSplitAmong (site_ids I) (customer_ids I) s
       known = split_known I path s halved.1
 
-      pub split_sound : IsSound g.tree.sites g.tree.customers (entry_of s)
-      split_sound = subst (λ xs. IsSound xs g.tree.customers (entry_of s)) (sym growing.sites) (subst (λ xs. IsSound (site_ids I) xs (entry_of s)) (sym growing.customers) known)
+      pub split_sound : IsSplitAmong g.tree.sites g.tree.customers s
+      split_sound = subst (λ xs. IsSplitAmong xs g.tree.customers s) (sym growing.sites) (subst (λ xs. IsSplitAmong (site_ids I) xs s) (sym growing.customers) known)
 
       lowers_first : LowersNone I base (path ++ first_step s ∷ [])
       lowers_first x = omega (arith, ints, reached_at.lowers x, first_rises I path valid s halved.1 x)
@@ -190,10 +186,13 @@ growing_on I J base old handed plan plan' limit g g' same step growing =
     subst (λ K. (x : Path) (h : Option Plan) → IsGrowing K x old h plan limit g → IsGrowing K x old h plan' limit g') same step base handed growing
 
 -- once every leaf is done
-pub grown_part : (I : Instance) (base : Path) (old : Duals) (handed plan : Option Plan) (limit : ℕ) (g : Growing) (t : Tree) → t ≡ g.tree → g.left ≡ 0 → IsGrowing I base old handed plan limit g → IsGrownPart I base old handed plan limit t
-grown_part I base old handed plan limit g t is none growing =
-    let root : IsBuiltOf (IsDoneLeaf I base old plan limit (nodes_of g.tree)) (IsDueSplit I (cost_in I handed)) base g.tree.root =
-    subst (λ b. IsBuiltOf (IsDoneLeaf I base old plan limit (nodes_of g.tree)) (IsDueSplit I (cost_in I handed)) b g.tree.root) growing.at
-    (done_whole (IsDoneLeaf I base old plan limit (nodes_of g.tree)) (IsDueSplit I (cost_in I handed)) g none growing.done) in
-    subst (IsGrownPart I base old handed plan limit) (sym is)
-    (record { sites = growing.sites; customers = growing.customers; root = root; within = growing.within })
+pub grown_part : (I : Instance) (base : Path) (old : Duals) (handed plan : Option Plan) (limit : ℕ) (g : Growing) → g.left ≡ 0 → IsGrowing I base old handed plan limit g → IsGrownPart I base old handed plan limit g.tree
+grown_part I base old handed plan limit g none growing =
+    record {
+      sites = growing.sites;
+      customers = growing.customers;
+      root =
+          subst (λ b. IsBuiltOf (IsDoneLeaf I base old plan limit (nodes_of g.tree)) (IsDueSplit I (cost_in I handed)) b g.tree.root) growing.at
+          (done_whole (IsDoneLeaf I base old plan limit (nodes_of g.tree)) (IsDueSplit I (cost_in I handed)) g none growing.done);
+      within = growing.within;
+    }

@@ -11,7 +11,6 @@ mod OpenLanes
 mod OpenPlans
 mod PlaceSums
 mod Regrows
-mod Renewed
 mod Reseated
 mod Settled
 mod SettledPlans
@@ -20,9 +19,10 @@ mod Going
 mod TightPlans
 mod Verdicts
 mod ZeroBound
-mod ZeroTrees
+pub mod Budgets
 pub mod Comparing
 pub mod Decided
 pub mod Leaves
 pub mod ServedLanes
+pub mod Started
 pub mod UnservedRay

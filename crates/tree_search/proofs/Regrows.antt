@@ -1,35 +1,39 @@
 -- What each leaf of a tree comes to in a search, and the whole tree.
-use Rattle.std.proofs.Common.{◌≡◌, ℕ, ◌+◌, ◌-◌, ◌^◌, ◌<◌, ◌≤◌, zero, suc, refl, sym, ap, subst, ◌∙◌, inl, inr, arith, List, [], ◌∷◌, ◌++◌, length, get_or, Bool, true, false, Option, Some, None, pos, negsuc, ◌-ℤ◌, ◌*ℤ◌, ◌≤ℤ◌, ◌<ℤ◌, ℤ}
+use Rattle.std.proofs.Common.{◌≡◌, ℕ, ◌+◌, ◌-◌, ◌^◌, ◌<◌, ◌≤◌, zero, suc, refl, sym, ap, subst, ◌∙◌, inl, inr, arith, List, [], ◌∷◌, ◌++◌, length, length-append, get_or, Bool, true, false, Option, Some, None, pos, negsuc, ◌-ℤ◌, ◌*ℤ◌, ◌≤ℤ◌, ◌<ℤ◌, ℤ}
 use Rattle.std.specs.Prelude.{◌⊎◌, ◌↔◌, All, IfSome, IsTrue, IsSome, IsSomeAnd, slice_get}
 use Rattle.std.proofs.lemmas.Bool.{both_ways}
 use Rattle.std.proofs.lemmas.Int.{ints}
 use Rattle.std.proofs.lemmas.Nat.{mul-le}
+use Rattle.std.proofs.lemmas.Option.{slice_get_within}
+use Rattle.std.proofs.lemmas.List.{append_assoc, append-nil}
 use Rattle.std.proofs.lemmas.List.Elements.{All-append, All-cons, All-nil, All-weaker}
-use Rattle.location_terms.specs.declared.decision.Decision.TheVariants.{Opened, Closed, Yes, No}
 use Rattle.location_terms.specs.Instance.{Instance, IsValid, site_ids, customer_ids}
 use Rattle.location_terms.specs.Plan.{Plan}
 use Rattle.location_terms.specs.Box.{Path}
+use Rattle.location_terms.specs.Split.{first_step, second_step}
 use Rattle.location_terms.specs.Bound.{Duals, bound_of}
 use Rattle.location_terms.specs.Fit.{DualsFit, BoundCloses, Closes}
-use Rattle.location_terms.specs.Tree.{Node, Leaf, OnSite, OnLane, Tree, IsTree, StandsOn, SplitsAmong, leaves_below, leaves_of, nodes_of, size_of}
+use Rattle.location_terms.specs.Tree.{Node, Leaf, Fork, Tree, IsTree, StandsOn, SplitsAmong, leaves_below, leaves_of, nodes_of}
 use Rattle.dual_ascent.proofs.Plain.{plain_keeps}
 use Rattle.plan_search.specs.InBox.{IsPathOf, IsNoWorse}
-use Rattle.branch_tree.specs.Leaf.{leaf_total, replaced}
+use Rattle.branch_tree.specs.Leaf.{leaf_total}
+use Rattle.branch_tree.specs.Renewing.{Renewing, renewing_from, stayed, given, renewed, renewing_to}
 use Rattle.branch_tree.specs.Built.{IsBuiltOf}
-use Rattle.branch_tree.proofs.Built.{built_leaves}
-use Rattle.tree_search.specs.Made.{IsMadeAtScale, IsOpenBox, IsMade, plain_scale}
+use Rattle.branch_tree.proofs.Built.{built_leaves, built_weaker}
+use Rattle.branch_tree.proofs.Flat.{leaves_and_splits}
+use Rattle.branch_tree.proofs.Renewing.{fork_total, count_over, renewed_nodes, begun_to, get_drop, leaves_in-push, stayed_to, given_to}
+use Rattle.tree_search.specs.Made.{IsMadeLeaf, IsMadeAtScale, IsOpenBox, IsDueSplit, IsMade, plain_scale}
 use Rattle.tree_search.specs.Grown.{IsGrownBelow, IsGrownFrom, PlansWereSought}
 use Rattle.tree_search.specs.Answer.{AreHeld, IsWithin, IsAnswerTo, cost_in, plan_in}
 use Rattle.tree_search.specs.declared.answer.Answer.{Answer}
 use Rattle.tree_search.specs.declared.limits.TheConstants.{MAX_DUALS}
-use Rattle.tree_search.specs.Working.{IsSoughtAt, IsDoneLeaf, IsDueSplit, IsGrownPart}
-use Rattle.tree_search.specs.Regrown.{IsKnownLeaf, HasEnded, HaveEnded, Answers, IsRenewed, IsRenewedBut, IsGrownAt, IsRegrownFrom}
+use Rattle.tree_search.specs.Working.{IsSoughtAt, IsDoneLeaf, IsGrownPart}
+use Rattle.tree_search.specs.Regrown.{IsKnownLeaf, HasEnded, Answers, IsRenewed, AreRenewedParts, IsRegrowing, IsGrownAt, IsRegrownFrom}
 use Rattle.tree_search.proofs.Closer.{closes_no_worse, closes_still, sought_still}
 use Rattle.tree_search.proofs.Comparing.{times_le}
 use Rattle.tree_search.proofs.Offered.{closed_sought}
-use Rattle.tree_search.proofs.Grew.{known_more}
-use Rattle.tree_search.proofs.LeafPlaces.{all_at, replaced_size}
-use Rattle.tree_search.proofs.Renewed.{untouched, no_fewer, same_leaf, renewed_more, kept_more, renewed_weaker}
+use Rattle.tree_search.proofs.Grew.{known_more, first_known, second_known}
+use Rattle.tree_search.proofs.LeafPlaces.{all_at}
 use Rattle.tree_search.proofs.TightPlans.{tight_plans}
 use Rattle.tree_search.proofs.ZeroBound.{plain_scale_fits, bound_at_zero}
 
@@ -146,11 +150,8 @@ module _ (I : Instance) where
         open_to (Some Q) (Some P) later bound q fails = λ closes. fails (closes_no_worse I bound q (Some Q) (Some P) later closes)
 
     built_made : (base : Path) (old : Duals) (plan handed plan' : Option Plan) (limit nodes : ℕ) → IsNoWorse I plan handed → (t : Node) (path : Path) → IsBuiltOf (IsDoneLeaf I base old plan' limit nodes) (IsDueSplit I (cost_in I plan)) path t → IsMade I (cost_in I handed) base old path t
-    built_made base old plan handed plan' limit nodes later (Leaf d) path h = h.made
-    built_made base old plan handed plan' limit nodes later (OnSite s a b) path h =
-        (open_weaker plan handed path later h.0.0, h.0.1, built_made base old plan handed plan' limit nodes later a (path ++ Closed s ∷ []) h.1, built_made base old plan handed plan' limit nodes later b (path ++ Opened s ∷ []) h.2)
-    built_made base old plan handed plan' limit nodes later (OnLane s c a b) path h =
-        (open_weaker plan handed path later h.0.0, h.0.1, built_made base old plan handed plan' limit nodes later a (path ++ No s c ∷ []) h.1, built_made base old plan handed plan' limit nodes later b (path ++ Yes s c ∷ []) h.2)
+    built_made base old plan handed plan' limit nodes later =
+        built_weaker (IsDoneLeaf I base old plan' limit nodes) (IsMadeLeaf I base old) (IsDueSplit I (cost_in I plan)) (IsDueSplit I (cost_in I handed)) (λ path d done. done.made) (λ path split due. (open_weaker plan handed path later due.0, due.1))
 
     pub part_renewed : (handed plan plan' : Option Plan) (budget before made : ℕ) (path : Path) (d : Duals) (part : Tree) → before ≤ budget → IsNoWorse I plan handed → (Closes I path d (cost_in I handed) → ⊥) → nodes_of part ≡ made + 1 → IsGrownPart I path d plan plan' ((budget - before) + 1) part → IsRenewed I handed plan' budget (before + made) path d part.root
     part_renewed handed plan plan' budget before made path d part within later unclosed count grown = record {
@@ -165,47 +166,30 @@ module _ (I : Instance) where
   -- The whole tree.
 
   module _ (handed plan : Option Plan) (budget made : ℕ) where
-    abbrev Renewed : ℕ → Path → Node → Node → Type 0
-    Renewed = IsRenewedBut (IsRenewed I handed plan budget made)
-
-    pub grown_whole : (old new : Node) (path : Path) (left : ℕ) → left ≡ 0 → IsRenewedBut (IsRenewed I handed plan budget made) left path old new → IsGrownBelow I (cost_in I handed) path old new
-    grown_whole (Leaf d) new path left none h = (h.1 none).grown
-    grown_whole (OnSite s a b) (OnSite s' a' b') path left none h = (h.0, grown_whole a a' (path ++ Closed s ∷ []) left none h.1, grown_whole b b' (path ++ Opened s ∷ []) (left - leaf_total a) (omega (arith, none)) h.2)
-    grown_whole (OnLane s c a b) (OnLane s' c' a' b') path left none h = (h.0, h.1, grown_whole a a' (path ++ No s c ∷ []) left none h.2, grown_whole b b' (path ++ Yes s c ∷ []) (left - leaf_total a) (omega (arith, none)) h.3)
-    grown_whole (OnSite s a b) (Leaf e) path left none h = absurd h
-    grown_whole (OnSite s a b) (OnLane s' c' a' b') path left none h = absurd h
-    grown_whole (OnLane s c a b) (Leaf e) path left none h = absurd h
-    grown_whole (OnLane s c a b) (OnSite s' a' b') path left none h = absurd h
-
     abbrev Ended : Path × Duals → Type 0
     Ended l = HasEnded I plan budget made l.0 l.1
 
-    pub ended_whole : (old new : Node) (path : Path) (left : ℕ) → left ≡ 0 → IsRenewedBut (IsRenewed I handed plan budget made) left path old new → All (λ l. HasEnded I plan budget made l.0 l.1) (leaves_below path new)
-    ended_whole (Leaf d) new path left none h = (h.1 none).ended
-    ended_whole (OnSite s a b) (OnSite s' a' b') path left none h =
-        subst (λ x. All Ended (leaves_below (path ++ Closed x ∷ []) a' ++ leaves_below (path ++ Opened x ∷ []) b')) h.0
-        (All-append Ended (leaves_below (path ++ Closed s ∷ []) a') (leaves_below (path ++ Opened s ∷ []) b') (ended_whole a a' (path ++ Closed s ∷ []) left none h.1) (ended_whole b b' (path ++ Opened s ∷ []) (left - leaf_total a) (omega (arith, none)) h.2))
-    ended_whole (OnLane s c a b) (OnLane s' c' a' b') path left none h =
-        subst (λ x. All Ended (leaves_below (path ++ No x c' ∷ []) a' ++ leaves_below (path ++ Yes x c' ∷ []) b')) h.0
-        (subst (λ x. All Ended (leaves_below (path ++ No s x ∷ []) a' ++ leaves_below (path ++ Yes s x ∷ []) b')) h.1
-        (All-append Ended (leaves_below (path ++ No s c ∷ []) a') (leaves_below (path ++ Yes s c ∷ []) b') (ended_whole a a' (path ++ No s c ∷ []) left none h.2) (ended_whole b b' (path ++ Yes s c ∷ []) (left - leaf_total a) (omega (arith, none)) h.3)))
-    ended_whole (OnSite s a b) (Leaf e) path left none h = absurd h
-    ended_whole (OnSite s a b) (OnLane s' c' a' b') path left none h = absurd h
-    ended_whole (OnLane s c a b) (Leaf e) path left none h = absurd h
-    ended_whole (OnLane s c a b) (OnSite s' a' b') path left none h = absurd h
+    -- the parts for the leaves of a tree and for those that follow
+    pub grown_whole : (t : Node) (path : Path) (rest : List (Path × Duals)) (ps : List Node) → leaf_total t ≤ length ps → AreRenewedParts (IsRenewed I handed plan budget made) (leaves_below path t ++ rest) ps
+        → IsGrownBelow I (cost_in I handed) path t (renewed t ps).0 × All Ended (leaves_below path (renewed t ps).0) × AreRenewedParts (IsRenewed I handed plan budget made) rest (renewed t ps).1
+    grown_whole (Leaf d) path rest [] many are = absurd (omega (arith, many))
+    grown_whole (Leaf d) path rest (p ∷ ps) many are = (are.0.grown, are.0.ended, are.1)
+    grown_whole (Fork split a b) path rest ps many are =
+        let one : Path = path ++ first_step split ∷ [] in
+        let other : Path = path ++ second_step split ∷ [] in
+        let both : leaf_total a + leaf_total b ≤ length ps = omega (arith, many, fork_total a b (first_step split ∷ []) (second_step split ∷ [])) in
+        let first = grown_whole a one (leaves_below other b ++ rest) ps (omega (arith, both)) (subst (λ ls. AreRenewedParts (IsRenewed I handed plan budget made) ls ps) (append_assoc (leaves_below one a) (leaves_below other b) rest) are) in
+        let second = grown_whole b other rest (renewed a ps).1 (omega (arith, both, count_over a ps (omega (arith, both)))) first.2 in
+        ((refl, first.0, second.0), All-append Ended (leaves_below one (renewed a ps).0) (leaves_below other (renewed b (renewed a ps).1).0) first.1 second.1, second.2)
 
   -- The paths of a tree that stands on the instance.
 
   paths_known : (t : Node) (path : Path) → IsPathOf I path → SplitsAmong (site_ids I) (customer_ids I) t → All (λ l. IsPathOf I l.0) (leaves_below path t)
   paths_known (Leaf d) path known splits = All-cons (λ (l : Path × Duals). IsPathOf I l.0) (path, d) [] known (All-nil (λ (l : Path × Duals). IsPathOf I l.0))
-  paths_known (OnSite s a b) path known splits =
-      All-append (λ (l : Path × Duals). IsPathOf I l.0) (leaves_below (path ++ Closed s ∷ []) a) (leaves_below (path ++ Opened s ∷ []) b)
-      (paths_known a (path ++ Closed s ∷ []) (known_more I path (Closed s) known splits.0) splits.1)
-      (paths_known b (path ++ Opened s ∷ []) (known_more I path (Opened s) known splits.0) splits.2)
-  paths_known (OnLane s c a b) path known splits =
-      All-append (λ (l : Path × Duals). IsPathOf I l.0) (leaves_below (path ++ No s c ∷ []) a) (leaves_below (path ++ Yes s c ∷ []) b)
-      (paths_known a (path ++ No s c ∷ []) (known_more I path (No s c) known (splits.0, splits.1)) splits.2)
-      (paths_known b (path ++ Yes s c ∷ []) (known_more I path (Yes s c) known (splits.0, splits.1)) splits.3)
+  paths_known (Fork split a b) path known splits =
+      All-append (λ (l : Path × Duals). IsPathOf I l.0) (leaves_below (path ++ first_step split ∷ []) a) (leaves_below (path ++ second_step split ∷ []) b)
+      (paths_known a (path ++ first_step split ∷ []) (known_more I path (first_step split) known (first_known I path split splits.0)) splits.1)
+      (paths_known b (path ++ second_step split ∷ []) (known_more I path (second_step split) known (second_known I path split splits.0)) splits.2)
 
   pub tree_paths : (t : Tree) → IsTree t → StandsOn t I → All (λ l. IsPathOf I l.0) (leaves_of t)
   tree_paths t tree stands =
@@ -222,85 +206,122 @@ some_at [] k within = absurd (omega (arith, within))
 some_at (x ∷ xs) zero within = (x, refl)
 some_at (x ∷ xs) (suc k) within = some_at xs k (omega (arith, within))
 
+-- one part more
+parts_more : (R : Path → Duals → Node → Type 0) (ls : List (Path × Duals)) (ps : List Node) (l : Path × Duals) (p : Node) → AreRenewedParts R ls ps → slice_get ls (length ps) ≡ Some l → R l.0 l.1 p → AreRenewedParts R ls (ps ++ p ∷ [])
+parts_more R [] [] l p are here has = cc
+parts_more R [] (q ∷ qs) l p are here has = absurd are
+parts_more R (x ∷ xs) [] l p are here has = let same : x ≡ l = cc in (subst (λ (m : Path × Duals). R m.0 m.1 p) (sym same) has, tt)
+parts_more R (x ∷ xs) (q ∷ qs) l p are here has = (are.0, parts_more R xs qs l p are.1 here has)
+
+parts_weaker : (R R' : Path → Duals → Node → Type 0) → ((path : Path) (d : Duals) (p : Node) → R path d p → R' path d p) → (ls : List (Path × Duals)) (ps : List Node) → AreRenewedParts R ls ps → AreRenewedParts R' ls ps
+parts_weaker R R' from ls [] are = tt
+parts_weaker R R' from [] (p ∷ ps) are = absurd are
+parts_weaker R R' from (l ∷ ls) (p ∷ ps) are = (from l.0 l.1 p are.0, parts_weaker R R' from ls ps are.1)
+
 module _ (I : Instance) (valid : IsValid I) (old : Tree) (handed : Option Plan) (budget : ℕ) (held : List Bool) (are : AreHeld I old (cost_in I handed) held) where
-  abbrev R : Option Plan → ℕ → Path → Duals → Node → Type 0
-  R plan made = IsRenewed I handed plan budget made
+  pub regrown_start : (r : Renewing) → r ≡ renewing_from old → (so_now : IsRegrowing I old handed handed budget r 0) × (length so_now.parts ≡ 0)
+  regrown_start r is = (record { parts = []; so_far = is ∙ begun_to old; renewed = tt; count = omega arith; within = omega arith }, refl)
 
-  pub regrown_start : IsRegrownFrom I old handed handed budget (length held) old 0
-  regrown_start = record {
-    sites = refl;
-    customers = refl;
-    root = untouched (R handed 0) old.root [] (length held) (omega (arith, are.len));
-    count = omega arith;
-    within = omega arith;
-  }
+  module _ (tree : IsTree old) (stands : StandsOn old I) (fit : All (λ l. DualsFit I l.1) (leaves_of old)) (plan : Option Plan) (r : Renewing) (made place : ℕ) (within : place < length held) (so_far : IsRegrowing I old handed plan budget r made) (at : length so_far.parts ≡ place) where
+    leaf : (l : Path × Duals) × (slice_get (leaves_of old) place ≡ Some l)
+    leaf = some_at (leaves_of old) place (omega (arith, within, are.len))
 
-  module _ (tree : IsTree old) (stands : StandsOn old I) (fit : All (λ l. DualsFit I l.1) (leaves_of old)) (plan : Option Plan) (new : Tree) (made left k : ℕ) (is : left ≡ suc k) (within : left ≤ length held) (so_far : IsRegrownFrom I old handed plan budget left new made) where
-    pub leaf_within : k < length (leaves_of new)
-    leaf_within = omega (arith, is, within, are.len, no_fewer (R plan made) old.root new.root [] left so_far.root)
+    behind : slice_get (leaves_of old) (length so_far.parts) ≡ Some leaf.0
+    behind = ap (slice_get (leaves_of old)) at ∙ leaf.1
 
-    leaf : (l : Path × Duals) × (slice_get (leaves_of old) k ≡ Some l)
-    leaf = some_at (leaves_of old) k (omega (arith, is, within, are.len))
+    hand : slice_get (renewing_to old so_far.parts).ahead 0 ≡ Some leaf.0
+    hand = get_drop (length so_far.parts) (leaves_of old) ∙ behind
 
-    leaf_now : slice_get (leaves_of new) k ≡ Some leaf.0
-    leaf_now = same_leaf (R plan made) old.root new.root [] left k (omega (arith, is)) so_far.root ∙ leaf.1
+    leaf_now : slice_get r.ahead 0 ≡ Some leaf.0
+    leaf_now = ap (λ (x : Renewing). slice_get x.ahead 0) so_far.so_far ∙ hand
+
+    pub leaf_left : 0 < length r.ahead
+    leaf_left = slice_get_within r.ahead 0 leaf.0 leaf_now
 
     path_known : IsPathOf I leaf.0.0
-    path_known = all_at (λ l. IsPathOf I l.0) (leaves_of old) k leaf.0 (tree_paths I old tree stands) leaf.1
+    path_known = all_at (λ l. IsPathOf I l.0) (leaves_of old) place leaf.0 (tree_paths I old tree stands) leaf.1
 
-    pub leaf_known : IfSome (slice_get (leaves_of new) k) (λ l. IsKnownLeaf I l.0 l.1)
+    pub leaf_known : IfSome (slice_get r.ahead 0) (λ l. IsKnownLeaf I l.0 l.1)
     leaf_known =
         subst (λ o. IfSome o (λ l. IsKnownLeaf I l.0 l.1)) (sym leaf_now)
-        (record { known = path_known; fit = all_at (λ l. DualsFit I l.1) (leaves_of old) k leaf.0 fit leaf.1 })
+        (record { known = path_known; fit = all_at (λ l. DualsFit I l.1) (leaves_of old) place leaf.0 fit leaf.1 })
 
-    told : (h : Bool) → slice_get held k ≡ Some h → IsTrue h ↔ Closes I leaf.0.0 leaf.0.1 (cost_in I handed)
-    told h at =
+    pub on_sites : r.tree.sites ≡ site_ids I
+    on_sites = ap (λ (x : Renewing). x.tree.sites) so_far.so_far ∙ stands.sites
+
+    pub on_customers : r.tree.customers ≡ customer_ids I
+    on_customers = ap (λ (x : Renewing). x.tree.customers) so_far.so_far ∙ stands.customers
+
+    pub nodes_so_far : nodes_of r.tree ≡ nodes_of old + made
+    nodes_so_far =
+        omega (
+          arith,
+          ap (λ (x : Renewing). nodes_of x.tree) so_far.so_far,
+          renewed_nodes old.root so_far.parts (omega (arith, at, within, are.len)),
+          so_far.count,
+        )
+
+    told : (h : Bool) → slice_get held place ≡ Some h → IsTrue h ↔ Closes I leaf.0.0 leaf.0.1 (cost_in I handed)
+    told h here =
         subst (λ o. IfSome o (λ l. IsTrue h ↔ Closes I l.0 l.1 (cost_in I handed))) leaf.1
-        (subst (λ o. IfSome o (λ h. IfSome (slice_get (leaves_of old) k) (λ l. IsTrue h ↔ Closes I l.0 l.1 (cost_in I handed)))) at (are.each k))
+        (subst (λ o. IfSome o (λ h. IfSome (slice_get (leaves_of old) place) (λ l. IsTrue h ↔ Closes I l.0 l.1 (cost_in I handed)))) here (are.each place))
 
-    pub held_step : slice_get held k ≡ Some true → IsNoWorse I plan handed → IsRegrownFrom I old handed plan budget k new made
-    held_step at later = record {
-      sites = so_far.sites;
-      customers = so_far.customers;
-      root =
-          kept_more (R plan made) leaf.0.0 leaf.0.1 (held_renewed I handed plan budget made leaf.0.0 leaf.0.1 valid path_known later ((told true at).0 refl))
-          old.root new.root [] left k is leaf.1 so_far.root;
-      count = so_far.count;
-      within = so_far.within;
-    }
+    pub held_step : slice_get held place ≡ Some true → IsNoWorse I plan handed → (r' : Renewing) → r' ≡ stayed r → (so_now : IsRegrowing I old handed plan budget r' made) × (length so_now.parts ≡ place + 1)
+    held_step here later r' is = (
+      record {
+        parts = so_far.parts ++ Leaf leaf.0.1 ∷ [];
+        so_far = is ∙ ap stayed so_far.so_far ∙ stayed_to old so_far.parts leaf.0 hand;
+        renewed = parts_more (IsRenewed I handed plan budget made) (leaves_of old) so_far.parts leaf.0 (Leaf leaf.0.1) so_far.renewed behind (held_renewed I handed plan budget made leaf.0.0 leaf.0.1 valid path_known later ((told true here).0 refl));
+        count = omega (arith, so_far.count, length-append so_far.parts (Leaf leaf.0.1 ∷ []), leaves_in-push so_far.parts (Leaf leaf.0.1));
+        within = so_far.within;
+      },
+      omega (arith, at, length-append so_far.parts (Leaf leaf.0.1 ∷ [])),
+    )
 
-    pub grown_step : slice_get held k ≡ Some false → IsNoWorse I plan handed → (plan' : Option Plan) (new' : Tree) (more : ℕ) → IsNoWorse I plan' plan → IsGrownAt I new k plan plan' (budget - made) new' more → IsRegrownFrom I old handed plan' budget k new' (made + more)
-    grown_step at later plan' new' more better grown =
-        let part : IsGrownPart I leaf.0.0 leaf.0.1 plan plan' ((budget - made) + 1) grown.part = subst (λ o. IfSome o (λ l. IsGrownPart I l.0 l.1 plan plan' ((budget - made) + 1) grown.part)) leaf_now grown.grown in
-        let renewed : IsRenewed I handed plan' budget (made + more) leaf.0.0 leaf.0.1 grown.part.root =
-        part_renewed I valid handed plan plan' budget made more leaf.0.0 leaf.0.1 grown.part so_far.within later
-        (λ closes. both_ways false refl ((told false at).1 closes)) grown.count part in
-        let size : size_of (replaced new.root k grown.part.root) + 1 ≡ size_of new.root + size_of grown.part.root = replaced_size grown.part.root leaf.0.0 leaf.0.1 new.root [] k leaf_now in
-        let count : nodes_of new' ≡ size_of (replaced new.root k grown.part.root) = ap nodes_of grown.now in
-        record {
-          sites = ap (λ t. t.sites) grown.now ∙ so_far.sites;
-          customers = ap (λ t. t.customers) grown.now ∙ so_far.customers;
-          root =
-              subst (IsRenewedBut (R plan' (made + more)) k [] old.root) (sym (ap (λ t. t.root) grown.now))
-              (renewed_more (R plan' (made + more)) leaf.0.0 leaf.0.1 grown.part.root renewed old.root new.root [] left k is leaf.1
-              (renewed_weaker (R plan made) (R plan' (made + more)) (renewed_still I handed plan' plan budget (made + more) made better (omega arith)) old.root new.root [] left so_far.root));
-          count = omega (arith, count, size, grown.count, so_far.count);
-          within = omega (arith, part.within, grown.count, so_far.within);
-        }
+    module _ (plan' : Option Plan) (r' : Renewing) (more : ℕ) (grown : IsGrownAt I r plan plan' (budget - made) r' more) where
+      part : IsGrownPart I leaf.0.0 leaf.0.1 plan plan' ((budget - made) + 1) grown.part
+      part = subst (λ o. IfSome o (λ l. IsGrownPart I l.0 l.1 plan plan' ((budget - made) + 1) grown.part)) leaf_now grown.grown
 
-    pub made_fits : (plan' : Option Plan) (new' : Tree) (more : ℕ) → IsGrownAt I new k plan plan' (budget - made) new' more → made + more ≤ budget
-    made_fits plan' new' more grown =
-        let part : IsGrownPart I leaf.0.0 leaf.0.1 plan plan' ((budget - made) + 1) grown.part = subst (λ o. IfSome o (λ l. IsGrownPart I l.0 l.1 plan plan' ((budget - made) + 1) grown.part)) leaf_now grown.grown in
-        omega (arith, part.within, grown.count, so_far.within)
+      pub made_fits : made + more ≤ budget
+      made_fits = omega (arith, part.within, grown.count, so_far.within)
+
+      pub grown_step : slice_get held place ≡ Some false → IsNoWorse I plan handed → IsNoWorse I plan' plan → (so_now : IsRegrowing I old handed plan' budget r' (made + more)) × (length so_now.parts ≡ place + 1)
+      grown_step here later better =
+          let has : IsRenewed I handed plan' budget (made + more) leaf.0.0 leaf.0.1 grown.part.root =
+          part_renewed I valid handed plan plan' budget made more leaf.0.0 leaf.0.1 grown.part so_far.within later
+          (λ closes. both_ways false refl ((told false here).1 closes)) grown.count part in
+          let before : AreRenewedParts (IsRenewed I handed plan' budget (made + more)) (leaves_of old) so_far.parts =
+          parts_weaker (IsRenewed I handed plan budget made) (IsRenewed I handed plan' budget (made + more)) (renewed_still I handed plan' plan budget (made + more) made better (omega arith)) (leaves_of old) so_far.parts so_far.renewed in (
+            record {
+              parts = so_far.parts ++ grown.part.root ∷ [];
+              so_far = grown.now ∙ ap (λ (x : Renewing). given x grown.part) so_far.so_far ∙ given_to old so_far.parts grown.part (omega (arith, at, within, are.len));
+              renewed = parts_more (IsRenewed I handed plan' budget (made + more)) (leaves_of old) so_far.parts leaf.0 grown.part.root before behind has;
+              count = omega (arith, so_far.count, length-append so_far.parts (grown.part.root ∷ []), leaves_in-push so_far.parts grown.part.root, leaves_and_splits grown.part.root [], grown.count);
+              within = made_fits;
+            },
+            omega (arith, at, length-append so_far.parts (grown.part.root ∷ [])),
+          )
+
+  -- once each leaf was looked at
+  pub regrown : (plan : Option Plan) (r : Renewing) (made : ℕ) (so_far : IsRegrowing I old handed plan budget r made) → length so_far.parts ≡ length held → (t : Tree) → t ≡ r.tree → IsRegrownFrom I old handed plan budget t made
+  regrown plan r made so_far all t is =
+      let new : Tree = (renewing_to old so_far.parts).tree in
+      let here : t ≡ new = is ∙ ap (λ (x : Renewing). x.tree) so_far.so_far in
+      let whole = grown_whole I handed plan budget made old.root [] [] so_far.parts (omega (arith, all, are.len)) (subst (λ ls. AreRenewedParts (IsRenewed I handed plan budget made) ls so_far.parts) (sym (append-nil (leaves_of old))) so_far.renewed) in
+      subst (λ x. IsRegrownFrom I old handed plan budget x made) (sym here)
+      (record {
+        grown = record { sites = refl; customers = refl; root = whole.0 };
+        ended = whole.1;
+        count = omega (arith, renewed_nodes old.root so_far.parts (omega (arith, all, are.len)), so_far.count);
+        within = so_far.within;
+      })
 
 -- the answer that shows a tree of which every leaf was looked at
-pub answers_to : (I : Instance) (old new : Tree) (handed plan : Option Plan) (budget made : ℕ) (a : Answer) → IsRegrownFrom I old handed plan budget 0 new made → IsNoWorse I plan handed → Answers I new plan made budget a → IsAnswerTo I old handed budget a
+pub answers_to : (I : Instance) (old new : Tree) (handed plan : Option Plan) (budget made : ℕ) (a : Answer) → IsRegrownFrom I old handed plan budget new made → IsNoWorse I plan handed → Answers I new plan made budget a → IsAnswerTo I old handed budget a
 answers_to I old new handed plan budget made a regrown later answers =
-    let ended : HaveEnded I plan budget made new = ended_whole I handed plan budget made old.root new.root [] 0 refl regrown.root in
-    let sought : PlansWereSought I new plan = All-weaker (λ l. HasEnded I plan budget made l.0 l.1) (λ l. 1 ≤ l.1.q → IsSoughtAt I plan l.0 l.1) (λ l e. e.sought) (leaves_of new) ended in
-    let grown : IsGrownFrom I (cost_in I handed) old new = record { sites = regrown.sites; customers = regrown.customers; root = grown_whole I handed plan budget made old.root new.root [] 0 refl regrown.root } in
+    let sought : PlansWereSought I new plan = All-weaker (λ l. HasEnded I plan budget made l.0 l.1) (λ l. 1 ≤ l.1.q → IsSoughtAt I plan l.0 l.1) (λ l e. e.sought) (leaves_of new) regrown.ended in
     record {
-      grown = subst (IsGrownFrom I (cost_in I handed) old) (sym answers.tree_is) grown;
+      grown = subst (IsGrownFrom I (cost_in I handed) old) (sym answers.tree_is) regrown.grown;
       sought = subst (λ t. PlansWereSought I t (plan_in a)) (sym answers.tree_is) (subst (PlansWereSought I new) (sym answers.plan_is) sought);
       kept = subst (λ p. IsNoWorse I p handed) (sym answers.plan_is) later;
       accepted = answers.accepted;

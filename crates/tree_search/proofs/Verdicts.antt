@@ -11,12 +11,12 @@ use Rattle.dual_value.specs.Scales.{IsAtLeast}
 use Rattle.dual_adjust.specs.Slackness.{tight_sites}
 use Rattle.plan_search.specs.InBox.{IsPathOf, IsNoWorse}
 use Rattle.plan_search.specs.Packed.{packed}
-use Rattle.branch_tree.specs.declared.split.Split.{Split}
-use Rattle.tree_search.specs.Made.{IsMadeLeaf, IsOpenBox}
+use Rattle.location_terms.specs.declared.split.Split.{Split}
+use Rattle.tree_search.specs.Made.{IsMadeLeaf, IsOpenBox, IsOpenSplit}
 use Rattle.tree_search.specs.Rays.{IsRayIn, IsRayless}
 use Rattle.tree_search.specs.Making.{Making, LowersNone, IsMaking, StaysMaking}
 use Rattle.tree_search.specs.Answer.{cost_in}
-use Rattle.tree_search.specs.Working.{ClosesWith, IsSoughtAt, IsSettled, IsOpenSplit, IsPressed, IsVerdict, IsWorked}
+use Rattle.tree_search.specs.Working.{ClosesWith, IsSoughtAt, IsSettled, IsPressed, IsVerdict, IsWorked}
 use Rattle.tree_search.proofs.Closer.{closes_at_least, closes_no_worse, closes_still, sought_still}
 use Rattle.tree_search.proofs.Comparing.{at_least_trans}
 use Rattle.tree_search.proofs.Settled.{settled}

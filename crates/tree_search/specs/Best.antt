@@ -1,3 +1,4 @@
+-- For private functions alone: no public contract cites this page.
 -- The best plan that a search knows of an instance.
 use Rattle.std.specs.Prelude.{◌≡◌, ℕ, Bool, Option, None, Some, IfSome, nat_lt, true, refl}
 use Rattle.std.specs.Coded.{Coded, code_by, coded_option, coded×}

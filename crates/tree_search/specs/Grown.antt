@@ -4,9 +4,9 @@ use Rattle.std.specs.Prelude.{◌≡◌, ◌⊎◌, ℕ, ◌≤◌, [], ◌∷�
 use Rattle.location_terms.specs.Instance.{Instance}
 use Rattle.location_terms.specs.Plan.{Plan, cost_of}
 use Rattle.location_terms.specs.Box.{Path}
-use Rattle.location_terms.specs.declared.decision.Decision.TheVariants.{Opened, Closed, Yes, No}
+use Rattle.location_terms.specs.Split.{first_step, second_step}
 use Rattle.location_terms.specs.Fit.{Closes}
-use Rattle.location_terms.specs.Tree.{Node, Leaf, OnSite, OnLane, Tree, leaves_of}
+use Rattle.location_terms.specs.Tree.{Node, Leaf, Fork, Tree, leaves_of}
 use Rattle.dual_adjust.specs.Slackness.{tight_sites}
 use Rattle.plan_search.specs.Packed.{packed}
 use Rattle.tree_search.specs.Made.{IsMade}
@@ -14,10 +14,8 @@ use Rattle.tree_search.specs.Made.{IsMade}
 -- below this path a leaf that closes against the target stands unchanged, and each other one is replaced by a tree that was made
 abbrev pub IsGrownBelow : Instance → Option ℕ → Path → Node → Node → Type 0
 IsGrownBelow I target path (Leaf d) new = (Closes I path d target × (new ≡ Leaf d)) ⊎ ((Closes I path d target → ⊥) × IsMade I target path d path new)
-IsGrownBelow I target path (OnSite s closed opened) (OnSite s_now closed_now opened_now) =
-    (s ≡ s_now) × IsGrownBelow I target (path ++ Closed s ∷ []) closed closed_now × IsGrownBelow I target (path ++ Opened s ∷ []) opened opened_now
-IsGrownBelow I target path (OnLane s c without using) (OnLane s_now c_now without_now using_now) =
-    (s ≡ s_now) × (c ≡ c_now) × IsGrownBelow I target (path ++ No s c ∷ []) without without_now × IsGrownBelow I target (path ++ Yes s c ∷ []) using using_now
+IsGrownBelow I target path (Fork split first second) (Fork split_now first_now second_now) =
+    (split ≡ split_now) × IsGrownBelow I target (path ++ first_step split ∷ []) first first_now × IsGrownBelow I target (path ++ second_step split ∷ []) second second_now
 IsGrownBelow I target path old new = ⊥
 
 -- the new tree stands on the same ids and has the old one's splits, and each leaf of the old one that doesn't close with the target is replaced by a tree that was made for it

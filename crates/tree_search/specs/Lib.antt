@@ -5,8 +5,9 @@ pub mod Grown
 pub mod Making
 pub mod Stored
 pub mod Answer
+pub mod Budget
 pub mod Best
 pub mod Searching
 pub mod Working
 pub mod Regrown
-pub mod Helping
+pub mod InForms

@@ -1,14 +1,16 @@
 -- What a search puts into the place of a leaf that is open: a tree whose leaves are at least as good as the plain ascent's, and
 -- which splits no box that needs no split. The rule is the suite's own.
-use Rattle.std.specs.Prelude.{◌≡◌, ◌≢◌, ◌⊎◌, ℕ, Bool, ◌<◌, ◌≤◌, [], ◌∷◌, ◌++◌, length, Contains, Option, Some, IfSome, is_some, IsTrue, IsFalse, pos, ◌≤ℤ◌, if◌then◌else◌}
+use Rattle.std.specs.Prelude.{◌≡◌, ◌≢◌, ◌⊎◌, ℕ, Bool, ◌<◌, ◌≤◌, length, Contains, Option, Some, IfSome, is_some, IsTrue, IsFalse, pos, ◌≤ℤ◌, if◌then◌else◌}
 use Rattle.std.specs.List.{list_any}
 use Rattle.location_terms.specs.Instance.{Instance, site_at, customer_at}
 use Rattle.location_terms.specs.Plan.{Plan, cost_of}
 use Rattle.location_terms.specs.Box.{Path, is_free, is_allowed}
-use Rattle.location_terms.specs.declared.decision.Decision.TheVariants.{Opened, Closed, Yes, No}
+use Rattle.location_terms.specs.declared.decision.Decision.TheVariants.{Yes}
+use Rattle.location_terms.specs.declared.split.Split.{Split}
+use Rattle.location_terms.specs.declared.split.Split.TheVariants.{Site, Lane}
 use Rattle.location_terms.specs.Bound.{Duals, bound_of}
 use Rattle.location_terms.specs.Fit.{DualsFit, AreTame, BoundCloses}
-use Rattle.location_terms.specs.Tree.{Node, Leaf, OnSite, OnLane}
+use Rattle.location_terms.specs.Tree.{Node}
 use Rattle.location_terms.specs.declared.limits.TheConstants.{MAX_SCALE}
 use Rattle.dual_ascent.specs.Levels.{servers}
 use Rattle.dual_value.specs.Zeros.{zeros}
@@ -17,6 +19,7 @@ use Rattle.dual_ascent.specs.Ascent.{IsAscended, IsBlocked}
 use Rattle.dual_adjust.specs.Slackness.{tight_sites}
 use Rattle.dual_adjust.specs.Adjustment.{Gains}
 use Rattle.plan_search.specs.Packed.{packed}
+use Rattle.branch_tree.specs.Built.{IsBuiltOf}
 
 -- The plain ascent of a box.
 
@@ -97,10 +100,15 @@ pub record IsOpenLane (I : Instance) (path : Path) (s c : ℕ) : Type 0 where
   pub undecided : Contains path (Yes s c) → ⊥
   pub others : 1 < length (servers I path customer)
 
--- a tree whose root is the box of `path`, made for a leaf that had the duals `old` at `old_path`
+-- the box may be split so
+abbrev pub IsOpenSplit : Instance → Path → Split → Type 0
+IsOpenSplit I path (Site s) = IsFreeSite I path s
+IsOpenSplit I path (Lane s c) = IsOpenLane I path s c
+
+-- a split of a box that needs one
+abbrev pub IsDueSplit : Instance → Option ℕ → Path → Split → Type 0
+IsDueSplit I target path split = IsOpenBox I target path × IsOpenSplit I path split
+
+-- a tree whose root is the box of `path`, made for a leaf that had the duals `old` at `old_path`: each of its leaves is made for it, and each of its splits is due
 abbrev pub IsMade : Instance → Option ℕ → Path → Duals → Path → Node → Type 0
-IsMade I target old_path old path (Leaf d) = IsMadeLeaf I old_path old path d
-IsMade I target old_path old path (OnSite s closed opened) =
-    IsOpenBox I target path × IsFreeSite I path s × IsMade I target old_path old (path ++ Closed s ∷ []) closed × IsMade I target old_path old (path ++ Opened s ∷ []) opened
-IsMade I target old_path old path (OnLane s c without using) =
-    IsOpenBox I target path × IsOpenLane I path s c × IsMade I target old_path old (path ++ No s c ∷ []) without × IsMade I target old_path old (path ++ Yes s c ∷ []) using
+IsMade I target old_path old = IsBuiltOf (IsMadeLeaf I old_path old) (IsDueSplit I target)

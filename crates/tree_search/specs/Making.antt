@@ -1,3 +1,4 @@
+-- For private functions alone: no public contract cites this page.
 -- A leaf while it is made: the plain ascent of its box, and the best duals that were found so far.
 use Rattle.std.specs.Prelude.{◌≡◌, ◌≤ℤ◌, ℕ, List, ℤ, Option, refl}
 use Rattle.std.specs.Coded.{Coded, code_by, coded_ℕ, coded_ℤ, coded_list, coded_option, coded×}
@@ -11,6 +12,7 @@ use Rattle.dual_ascent.specs.Work.{Work}
 use Rattle.dual_adjust.specs.Slackness.{tight_sites}
 use Rattle.dual_adjust.specs.Present.{Present, HasAscended}
 use Rattle.dual_value.specs.Zeros.{zeros}
+use Rattle.branch_tree.specs.Preorder.{duals_code}
 use Rattle.tree_search.specs.Made.{IsMadeScale, IsPlainAscent, plain_scale}
 
 -- the zeros from which plain ascents start; the duals of the plain ascent, their bound and tight sites; the best duals and their bound
@@ -23,9 +25,6 @@ pub record Making : Type 0 where
   pub bound : ℤ
 
 -- the codes by which a struct can have this as its value
-
-abbrev pub duals_code : Coded Duals
-duals_code = code_by (ℕ × (ℤ × (List ℤ × List ℕ))) (coded× coded_ℕ (coded× coded_ℤ (coded× (coded_list coded_ℤ) (coded_list coded_ℕ)))) (λ d. (d.q, (d.nu, (d.v, d.u)))) (λ p. record { q = p.0; nu = p.1.0; v = p.1.1.0; u = p.1.1.1 }) (λ _. refl)
 
 abbrev pub work_code : Coded Work
 work_code = code_by (List ℤ × List (Option ℕ)) (coded× (coded_list coded_ℤ) (coded_list (coded_option coded_ℕ))) (λ w. (w.slacks, w.blockers)) (λ p. record { slacks = p.0; blockers = p.1 }) (λ _. refl)

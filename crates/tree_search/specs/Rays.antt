@@ -1,3 +1,4 @@
+-- For private functions alone: no public contract cites this page.
 -- When counting alone shows a box to be empty: a customer without an allowed lane, an opened site whose forced customers demand more
 -- than it holds, and too many opened or too few possible sites. Where none of these is so, no simple ray closes the box.
 use Rattle.std.specs.Prelude.{if◌then◌else◌, ◌≡◌, ℕ, ◌==◌, ◌<◌, ◌≤◌, ◌&&◌, not, Bool, IsTrue, length, filter, map, replicate, slice_set, sum_by, ℤ, pos}

@@ -1,17 +1,18 @@
--- What a search has of a tree whose leaves it replaces one after another, from the last to the first.
-use Rattle.std.specs.Prelude.{◌≡◌, ◌⊎◌, ℕ, ◌+◌, ◌-◌, ◌<◌, ◌≤◌, [], ◌∷◌, ◌++◌, All, Option, IsSome, IfSome, slice_get, pos, ◌-ℤ◌, ◌≤ℤ◌, ◌<ℤ◌}
-use Rattle.location_terms.specs.declared.decision.Decision.TheVariants.{Opened, Closed, Yes, No}
+-- For private functions alone: no public contract cites this page.
+-- What a search has of a tree whose leaves it looks at one after another.
+use Rattle.std.specs.Prelude.{◌≡◌, ◌⊎◌, ℕ, ◌+◌, ◌*◌, ◌<◌, ◌≤◌, List, [], ◌∷◌, length, All, Option, IsSome, IfSome, slice_get, pos, ◌-ℤ◌, ◌≤ℤ◌, ◌<ℤ◌}
 use Rattle.location_terms.specs.Instance.{Instance}
 use Rattle.location_terms.specs.Plan.{Plan}
 use Rattle.location_terms.specs.Box.{Path}
 use Rattle.location_terms.specs.Bound.{Duals, bound_of}
 use Rattle.location_terms.specs.Fit.{DualsFit, Closes}
-use Rattle.location_terms.specs.Tree.{Node, Leaf, OnSite, OnLane, Tree, leaves_below, leaves_of, nodes_of}
+use Rattle.location_terms.specs.Tree.{Node, Leaf, Tree, leaves_below, leaves_of, nodes_of}
 use Rattle.location_terms.specs.Certificate.{IsAccepted}
 use Rattle.plan_search.specs.InBox.{IsPathOf, HasNoCaps}
-use Rattle.branch_tree.specs.Leaf.{leaf_total, replaced_in}
+use Rattle.branch_tree.specs.Renewing.{Renewing, given, leaves_in, renewing_to}
 use Rattle.tree_search.specs.declared.answer.Answer.{Answer}
 use Rattle.tree_search.specs.Made.{IsMade}
+use Rattle.tree_search.specs.Grown.{IsGrownFrom}
 use Rattle.tree_search.specs.Answer.{HasFreeCount, cost_in, plan_in, tree_in, made_in, certificate_in, IsCauseOf}
 use Rattle.tree_search.specs.Working.{ClosesWith, IsSoughtAt, IsGrownPart}
 
@@ -37,27 +38,31 @@ pub record IsRenewed (I : Instance) (handed plan : Option Plan) (budget made : �
   pub grown : (Closes I path d (cost_in I handed) × (new ≡ Leaf d)) ⊎ ((Closes I path d (cost_in I handed) → ⊥) × IsMade I (cost_in I handed) path d path new)
   pub ended : All (λ l. HasEnded I plan budget made l.0 l.1) (leaves_below path new)
 
--- below the path, the first leaves are unchanged, as many as are left, and each other one has R with what stands in its place
-abbrev pub IsRenewedBut : (Path → Duals → Node → Type 0) → ℕ → Path → Node → Node → Type 0
-IsRenewedBut R left path (Leaf d) new = (0 < left → new ≡ Leaf d) × (left ≡ 0 → R path d new)
-IsRenewedBut R left path (OnSite s closed opened) (OnSite s_now closed_now opened_now) =
-    (s ≡ s_now) × IsRenewedBut R left (path ++ Closed s ∷ []) closed closed_now × IsRenewedBut R (left - leaf_total closed) (path ++ Opened s ∷ []) opened opened_now
-IsRenewedBut R left path (OnLane s c without using) (OnLane s_now c_now without_now using_now) =
-    (s ≡ s_now) × (c ≡ c_now) × IsRenewedBut R left (path ++ No s c ∷ []) without without_now × IsRenewedBut R (left - leaf_total without) (path ++ Yes s c ∷ []) using using_now
-IsRenewedBut R left path old new = ⊥
+-- each part has R with the leaf in whose place it stands: the first leaves, as many as there are parts
+abbrev pub AreRenewedParts : (Path → Duals → Node → Type 0) → List (Path × Duals) → List Node → Type 0
+AreRenewedParts R leaves [] = Unit {0}
+AreRenewedParts R [] (part ∷ parts) = ⊥
+AreRenewedParts R (l ∷ leaves) (part ∷ parts) = R l.0 l.1 part × AreRenewedParts R leaves parts
 
--- a tree grew in the place of leaf k, and its splits made so many nodes
-pub record IsGrownAt (I : Instance) (old : Tree) (k : ℕ) (handed plan : Option Plan) (budget : ℕ) (new : Tree) (made : ℕ) : Type 0 where
+-- a tree whose first leaves were looked at, and whose splits made so many nodes
+pub record IsRegrowing (I : Instance) (old : Tree) (handed plan : Option Plan) (budget : ℕ) (r : Renewing) (made : ℕ) : Type 0 where
+  pub parts : List Node
+  pub so_far : r ≡ renewing_to old parts
+  pub renewed : AreRenewedParts (IsRenewed I handed plan budget made) (leaves_of old) parts
+  pub count : made + 2 * length parts ≡ 2 * leaves_in parts
+  pub within : made ≤ budget
+
+-- a tree grew in the place of the leaf at hand, and its splits made so many nodes
+pub record IsGrownAt (I : Instance) (old : Renewing) (handed plan : Option Plan) (budget : ℕ) (new : Renewing) (made : ℕ) : Type 0 where
   pub part : Tree
-  pub now : new ≡ replaced_in old k part
+  pub now : new ≡ given old part
   pub count : nodes_of part ≡ made + 1
-  pub grown : IfSome (slice_get (leaves_of old) k) (λ l. IsGrownPart I l.0 l.1 handed plan (budget + 1) part)
+  pub grown : IfSome (slice_get old.ahead 0) (λ l. IsGrownPart I l.0 l.1 handed plan (budget + 1) part)
 
--- the tree where the leaves from this one on were renewed
-pub record IsRegrownFrom (I : Instance) (old : Tree) (handed plan : Option Plan) (budget left : ℕ) (new : Tree) (made : ℕ) : Type 0 where
-  pub sites : new.sites ≡ old.sites
-  pub customers : new.customers ≡ old.customers
-  pub root : IsRenewedBut (IsRenewed I handed plan budget made) left [] old.root new.root
+-- the tree once each leaf was looked at
+pub record IsRegrownFrom (I : Instance) (old : Tree) (handed plan : Option Plan) (budget : ℕ) (new : Tree) (made : ℕ) : Type 0 where
+  pub grown : IsGrownFrom I (cost_in I handed) old new
+  pub ended : HaveEnded I plan budget made new
   pub count : nodes_of new ≡ nodes_of old + made
   pub within : made ≤ budget
 

@@ -1,9 +1,9 @@
+-- For private functions alone: no public contract cites this page.
 -- What a search has in hand from box to box.
 use Rattle.std.specs.Prelude.{◌≡◌, refl}
 use Rattle.std.specs.Coded.{Coded, code_by, coded×}
 use Rattle.dual_value.specs.Prepared.{Prepared}
 use Rattle.lane_order.specs.Order.{Order, IsOrderOf}
-use Rattle.dual_steps.specs.Sizes.{Sizes, sizes_of}
 use Rattle.plan_search.specs.InBox.{IsPathOf}
 use Rattle.tree_search.specs.Best.{Best, best_code, Improves}
 use Rattle.tree_search.specs.Making.{Making, making_code, IsMakerFor, Makes, StaysMaking}
@@ -18,10 +18,9 @@ abbrev pub searching_code : Coded Searching
 searching_code = code_by (Best × Making) (coded× best_code making_code) (λ s. (s.best, s.leaf)) (λ p. record { best = p.0; leaf = p.1 }) (λ _. refl)
 
 -- what a search works with is for the instance of its plan
-pub record IsSearch (o : Order) (best : Best) (leaf : Making) (helpers : Sizes) : Type 0 where
+pub record IsSearch (o : Order) (best : Best) (leaf : Making) : Type 0 where
   pub order : IsOrderOf o best.instance
   pub maker : IsMakerFor best.instance leaf
-  pub sizes : helpers ≡ sizes_of best.instance
 
 -- the search is at work in this box
 pub record IsAt (b : Prepared) (s : Searching) : Type 0 where

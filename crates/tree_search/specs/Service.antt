@@ -1,3 +1,4 @@
+-- For private functions alone: no public contract cites this page.
 -- From where a customer can be served in a box.
 use Rattle.std.specs.Prelude.{◌≡◌, ℕ, ◌<◌, IsTrue, length, Option, None, Some}
 use Rattle.location_terms.specs.Instance.{Instance, site_at, customer_at}

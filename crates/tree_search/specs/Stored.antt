@@ -1,3 +1,4 @@
+-- For private functions alone: no public contract cites this page.
 -- How what is found of a leaf is stored.
 use Rattle.std.specs.Prelude.{◌≡◌, ◌≤◌, length, unsigned_abs}
 use Rattle.location_terms.specs.Bound.{Duals}

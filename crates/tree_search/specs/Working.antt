@@ -1,3 +1,4 @@
+-- For private functions alone: no public contract cites this page.
 -- What a search has of the leaves that it works, from step to step.
 use Rattle.std.specs.Prelude.{◌≡◌, ◌⊎◌, ℕ, ◌+◌, ◌-◌, ◌<◌, ◌≤◌, length, Bool, IsTrue, IsFalse, Option, None, Some, IfSome, IsSomeAnd}
 use Rattle.location_terms.specs.Instance.{Instance, site_ids, customer_ids, site_at}
@@ -9,12 +10,11 @@ use Rattle.location_terms.specs.Tree.{Tree, nodes_of}
 use Rattle.dual_adjust.specs.Slackness.{tight_sites}
 use Rattle.plan_search.specs.InBox.{IsPathOf, IsNoWorse}
 use Rattle.plan_search.specs.Packed.{packed}
-use Rattle.branch_tree.specs.declared.split.Split.{Split}
-use Rattle.branch_tree.specs.declared.split.Split.TheVariants.{Site, Lane}
+use Rattle.location_terms.specs.declared.split.Split.{Split}
 use Rattle.branch_tree.specs.Growing.{Growing}
 use Rattle.branch_tree.specs.Built.{IsBuiltOf, IsBuiltIn, IsDoneIn}
 use Rattle.dual_ascent.specs.Levels.{servers}
-use Rattle.tree_search.specs.Made.{has_cap, IsMadeLeaf, IsOpenBox, IsFreeSite, IsOpenLane}
+use Rattle.tree_search.specs.Made.{has_cap, IsMadeLeaf, IsOpenBox, IsOpenSplit, IsDueSplit}
 use Rattle.tree_search.specs.Making.{LowersNone}
 use Rattle.tree_search.specs.Answer.{cost_in}
 
@@ -36,11 +36,6 @@ HasNoFreeSite I path = (i : ℕ) → i < length I.sites → IsFalse (is_free pat
 pub record IsSettled (I : Instance) (path : Path) : Type 0 where
   pub sites : HasNoFreeSite I path
   pub lanes : IsTrue (has_cap I) → (j : ℕ) → j < length I.customers → length (servers I path j) ≤ 1
-
--- the box may be split so
-abbrev pub IsOpenSplit : Instance → Path → Split → Type 0
-IsOpenSplit I path (Site s) = IsFreeSite I path s
-IsOpenSplit I path (Lane s c) = IsOpenLane I path s c
 
 -- the best duals close the box, or a plan was sought where the plain ascent is tight
 abbrev pub IsPressed : Instance → Option Plan → Path → Duals → Duals → Type 0
@@ -66,10 +61,6 @@ pub record IsDoneLeaf (I : Instance) (base : Path) (old : Duals) (plan : Option 
   pub made : IsMadeLeaf I base old path d
   pub sought : 1 ≤ d.q → IsSoughtAt I plan path d
   pub ends : ClosesWith I plan path d ⊎ (limit < nodes + 2)
-
--- a split of an open box
-abbrev pub IsDueSplit : Instance → Option ℕ → Path → Split → Type 0
-IsDueSplit I target path split = IsOpenBox I target path × IsOpenSplit I path split
 
 -- a leaf whose path goes on from the base
 pub record IsReached (I : Instance) (base : Path) (path : Path) (d : Duals) : Type 0 where

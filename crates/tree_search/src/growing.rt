@@ -1,5 +1,6 @@
 //! The growth of a tree.
 ghost use Rattle.std.specs.Prelude.{◌≡◌, ℕ, ◌+◌, ◌*◌, ◌^◌, ◌<◌, ◌≤◌, All, IfOk, IfSome, OnOk, length, slice_get};
+ghost use Rattle.location_terms.specs.Instance.{site_ids, customer_ids};
 ghost use Rattle.location_terms.specs.Fit.{DualsFit};
 ghost use Rattle.location_terms.specs.Tree.{StandsOn, leaves_of, nodes_of};
 ghost use Rattle.lane_order.specs.Order.{IsOrderOf};
@@ -11,11 +12,12 @@ use crate::incumbent::plan_cost;
 use crate::leaf_growth::grow_leaf;
 use crate::search::Search;
 use crate::{Answer, MAX_DUALS};
-use branch_tree::Tree;
+use branch_tree::{Renewal, Tree};
 use instance_store::{Instance, NoMemory};
 use lane_order::LaneOrder;
 use plan_meaning::Plan;
 use std::alloc::Global;
+use strategy_port::Strategy;
 
 /// The greatest number of nodes of a tree from which a search of this instance starts, and the greatest
 /// budget.
@@ -30,14 +32,16 @@ pub fn max_nodes(inst: &Instance) -> u32
 /// Grows a tree until each leaf closes against the cost of the best plan found, or another split, which
 /// makes two nodes, would make more than `budget` in all.
 ///
+/// The strategy proposes duals, plans and splits; whatever it proposes, the answer is as good as said here.
 /// A handed plan is feasible, and the answer's plan costs at most as much. `held` says of each leaf of
 /// the tree, in preorder, whether it closes against the handed plan's cost, or, where no plan is handed,
 /// without a target. Such a leaf stays as it is; each other one is replaced, whatever the budget is. It
 /// fails only where memory runs out.
-pub fn grow(
+pub fn grow<S: Strategy>(
     alloc: Global,
     inst: &Instance,
     order: &LaneOrder,
+    strategy: &mut S,
     tree: Tree,
     held: &[bool],
     plan: Option<Plan>,
@@ -49,55 +53,63 @@ pub fn grow(
 {
     // An instance is valid, so that the numbers of nodes are small.
     let _sites = inst.sites();
-    let mut tree = tree;
     let mut search = Search::of(alloc, inst, order, plan)?;
-    let made = grow_open(&mut search, &mut tree, held, budget)?;
+    let (tree, made) = grow_open(&mut search, strategy, tree, held, budget)?;
     answer(search, tree, made)
 }
 
-// Grows a tree in the place of each leaf that isn't held, from the last to the first, so that the places
-// of those to come stay the same: how many nodes the splits made.
-fn grow_open(
+// Goes through the leaves from the first to the last: one that is held stays, and in the place of each
+// other one a tree grows. The tree that comes out, and how many nodes its splits made.
+fn grow_open<S: Strategy>(
     search: &mut Search<'_>,
-    tree: &mut Tree,
+    strategy: &mut S,
+    tree: Tree,
     held: &[bool],
     budget: u32,
-) -> Result<u32, NoMemory>
-    requires stands { StandsOn tree.old search.old.best.instance }
-    requires fit { All (λ l. DualsFit search.old.best.instance l.1) (leaves_of tree.old) }
-    requires held { AreHeld search.old.best.instance tree.old (cost_in search.old.best.instance search.old.best.plan) held.now }
-    requires few { nodes_of tree.old + budget + 3 < 2 ^ 32 }
+) -> Result<(Tree, u32), NoMemory>
+    requires stands { StandsOn tree search.old.best.instance }
+    requires fit { All (λ l. DualsFit search.old.best.instance l.1) (leaves_of tree) }
+    requires held { AreHeld search.old.best.instance tree (cost_in search.old.best.instance search.old.best.plan) held.now }
+    requires few { nodes_of tree + budget + 3 < 2 ^ 32 }
     ensures plan { OnOk result (Improves search.old.best search.new.best) }
-    ensures grown { IfOk result (IsRegrownFrom search.old.best.instance tree.old search.old.best.plan search.new.best.plan budget 0 tree.new) }
+    ensures grown { IfOk result (λ r. IsRegrownFrom search.old.best.instance tree search.old.best.plan search.new.best.plan budget r.0 r.1) }
 {
     // The instance is valid, and the tree's splits are on its ids.
     let _sites = search.instance().sites();
     let _nodes = tree.nodes();
     let mut made = 0;
-    let mut left = held.len();
-    while left > 0 {
-        left -= 1;
-        if !held[left] {
-            made += grow_at(search, tree, left, budget - made)?;
+    let mut renewal = Renewal::of(tree)?;
+    for place in 0..held.len() {
+        if held[place] {
+            renewal = renewal.stay()?;
+            continue;
         }
+        let (grown, more) = grow_at(search, strategy, renewal, budget - made)?;
+        renewal = grown;
+        made += more;
     }
-    Ok(made)
+    Ok((renewal.finish()?, made))
 }
 
-// Grows a tree in the place of leaf `k`: how many nodes the splits made.
-fn grow_at(search: &mut Search<'_>, tree: &mut Tree, k: usize, budget: u32) -> Result<u32, NoMemory>
-    requires stands { StandsOn tree.old search.old.best.instance }
-    requires within { k < length (leaves_of tree.old) }
-    requires known { IfSome (slice_get (leaves_of tree.old) k) (λ l. IsKnownLeaf search.old.best.instance l.0 l.1) }
-    requires few { nodes_of tree.old + budget + 3 < 2 ^ 32 }
+// Grows a tree in the place of the leaf at hand: how many nodes the splits made.
+fn grow_at<S: Strategy>(
+    search: &mut Search<'_>,
+    strategy: &mut S,
+    renewal: Renewal,
+    budget: u32,
+) -> Result<(Renewal, u32), NoMemory>
+    requires sites { renewal.tree.sites ≡ site_ids search.old.best.instance }
+    requires customers { renewal.tree.customers ≡ customer_ids search.old.best.instance }
+    requires left { 0 < length renewal.ahead }
+    requires known { IfSome (slice_get renewal.ahead 0) (λ l. IsKnownLeaf search.old.best.instance l.0 l.1) }
+    requires few { nodes_of renewal.tree + budget + 3 < 2 ^ 32 }
     ensures plan { OnOk result (Improves search.old.best search.new.best) }
-    ensures grown { IfOk result (IsGrownAt search.old.best.instance tree.old k search.old.best.plan search.new.best.plan budget tree.new) }
+    ensures grown { IfOk result (λ r. IsGrownAt search.old.best.instance renewal search.old.best.plan search.new.best.plan budget r.0 r.1) }
 {
-    let path = tree.leaf_path(k)?;
-    let part = grow_leaf(search, path, tree.leaf_duals(k), budget + 1)?;
-    let made = part.nodes() - 1;
-    tree.replace_leaf(k, part)?;
-    Ok(made)
+    let (path, duals) = renewal.leaf();
+    let growth = grow_leaf(search, strategy, path, duals, budget + 1)?;
+    let made = growth.nodes() - 1;
+    Ok((renewal.give(growth)?, made))
 }
 
 // What the tree and the best plan show.

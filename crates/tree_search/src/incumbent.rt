@@ -6,7 +6,7 @@ ghost use Rattle.plan_search.specs.InBox.{IsNoWorse};
 ghost use Rattle.tree_search.specs.Answer.{cost_in};
 ghost use Rattle.tree_search.specs.Best.{Improves, is_below};
 
-use instance_store::{Instance, SiteId};
+use instance_store::Instance;
 use plan_meaning::{Plan, cost};
 use std::marker::Model;
 
@@ -59,12 +59,9 @@ impl<'a> Incumbent<'a> {
         self.cost
     }
 
-    /// Whether the plan opens the site.
-    pub(crate) fn opens(&self, site: SiteId) -> bool {
-        match &self.plan {
-            None => false,
-            Some(plan) => plan.opens(site),
-        }
+    /// The plan.
+    pub(crate) fn plan(&self) -> Option<&Plan> {
+        self.plan.as_ref()
     }
 
     /// Takes this plan over, if there is one, where it costs less.

@@ -9,37 +9,44 @@ ghost use Rattle.tree_search.specs.Working.{IsGrowing, IsGrownPart, steps_left};
 
 use crate::search::Search;
 use crate::work::{Worked, work};
-use branch_tree::{Growth, Tree};
+use branch_tree::Growth;
 use dual_value::{Duals, Path};
 use instance_store::NoMemory;
+use strategy_port::Strategy;
 
 /// Grows a tree in the place of the leaf with these path and duals, until each leaf closes against the
-/// best plan or one split more would give it more than `limit` nodes. It fails only where memory runs out.
-pub(crate) fn grow_leaf(
-    search: &mut Search<'_>,
-    path: Path,
+/// best plan or one split more would give it more than `limit` nodes: all its leaves are done then. It
+/// fails only where memory runs out.
+pub(crate) fn grow_leaf<'a, S: Strategy>(
+    search: &mut Search<'a>,
+    strategy: &mut S,
+    path: &Path,
     replaced: &Duals,
     limit: u32,
-) -> Result<Tree, NoMemory>
-    requires path { IsPathOf search.old.best.instance path }
+) -> Result<Growth<'a>, NoMemory>
+    requires path { IsPathOf search.old.best.instance path.now }
     requires replaced { DualsFit search.old.best.instance replaced.now }
     requires some { 1 ≤ limit }
     requires few { limit + 2 < 2 ^ 32 }
     ensures plan { OnOk result (Improves search.old.best search.new.best) }
-    ensures grown { IfOk result (IsGrownPart search.old.best.instance path replaced.now search.old.best.plan search.new.best.plan limit) }
+    ensures done { IfOk result (λ g. g.left ≡ 0) }
+    ensures grown { IfOk result (λ g. IsGrownPart search.old.best.instance path.now replaced.now search.old.best.plan search.new.best.plan limit g.tree) }
 {
-    let mut growth = Growth::of(search.alloc, search.instance(), path, replaced.copied()?)?;
+    let base = path.copied()?;
+    let duals = replaced.copied()?;
+    let mut growth = Growth::of(search.alloc, search.instance(), base, duals)?;
     while !growth.is_done() {
-        step(search, replaced, &mut growth, limit)?;
+        step(search, strategy, replaced, &mut growth, limit)?;
     }
-    Ok(growth.into_tree())
+    Ok(growth)
 }
 
 // Works the leaf at work, and splits it or is done with it.
-fn step(
+fn step<S: Strategy>(
     search: &mut Search<'_>,
+    strategy: &mut S,
     replaced: &Duals,
-    growth: &mut Growth,
+    growth: &mut Growth<'_>,
     limit: u32,
 ) -> Result<(), NoMemory>
     requires replaced { DualsFit search.old.best.instance replaced.now }
@@ -55,7 +62,14 @@ fn step(
     // An instance is valid, so that no decision lowers a bound.
     let _sites = search.instance().sites();
     let may_split = growth.nodes() + 2 <= limit;
-    let worked = work(search, growth.path(), replaced, growth.duals(), may_split)?;
+    let worked = work(
+        search,
+        strategy,
+        growth.path(),
+        replaced,
+        growth.duals(),
+        may_split,
+    )?;
     let Worked { duals, split } = worked;
     match split {
         None => {

@@ -1,174 +1,70 @@
-ghost use Rattle.std.specs.Prelude.{IfOk, OnOk};
-ghost use Rattle.lane_order.specs.Order.{IsOrderOf};
-ghost use Rattle.tree_search.specs.Making.{Makes};
+ghost use Rattle.tree_search.specs.Answer.{IsWithin};
 
-use crate::leaf_maker::LeafMaker;
-use crate::rays::{first_unserved, unserved_ray};
-use crate::search::is_fit;
-use dual_value::{Duals, Path, PreparedBox, bound};
-use example_instances::{customer, ring, site};
-use instance_store::{Instance, LaneRow, NoMemory, SiteId};
+use crate::{Answer, PlainStrategy, Tree, grow, max_nodes};
+use example_instances::{ring, road, warehouses};
+use instance_store::{Instance, NoMemory};
 use lane_order::LaneOrder;
-use location_terms::{Decision, MAX_SCALE};
 use std::alloc::Global;
 use std::test::Fail;
 
-// Two sites that serve the first customer for nothing, and each one of the others.
-fn shared(alloc: Global) -> Result<Instance, NoMemory> {
-    let first = LaneRow::from_slice(alloc, &[Some(0), Some(0), None])?;
-    let second = LaneRow::from_slice(alloc, &[Some(0), None, Some(0)])?;
-    let sites = vec![in alloc;
-        site(1, 2_000_000, None, first),
-        site(2, 2_000_000, None, second),
-    ]?;
-    let custs = vec![in alloc; customer(1, 0), customer(2, 0), customer(3, 0)]?;
-    Instance::from_parts(alloc, 0, 2, 3, 4, custs, sites)
-}
-
-// What is found of the box from zeros alone.
-fn maker(alloc: Global, boxed: &PreparedBox<'_>, order: &LaneOrder) -> Result<LeafMaker, NoMemory>
-    requires order { IsOrderOf order.now boxed.now.instance }
-    ensures { IfOk result (λ m. Makes boxed.now.instance boxed.now.path m) }
+// What the plain search from one leaf of zeros answers.
+fn searched(alloc: Global, inst: &Instance, budget: u32) -> Result<Answer, NoMemory>
+    requires { IsWithin inst.now budget }
 {
-    let zeros = Duals::zeros(alloc, boxed.instance(), 1)?;
-    let mut maker = LeafMaker::of(alloc, boxed.instance())?;
-    maker.enter(alloc, boxed, order, &zeros, &zeros)?;
-    Ok(maker)
-}
-
-// The bound, once duals of this scale and these values were proposed.
-fn bound_with(
-    alloc: Global,
-    boxed: &PreparedBox<'_>,
-    order: &LaneOrder,
-    maker: &mut LeafMaker,
-    q: u32,
-    values: &[i128],
-) -> Result<i128, NoMemory>
-    requires order { IsOrderOf order.now boxed.now.instance }
-    requires making { Makes boxed.now.instance boxed.now.path maker.old }
-    ensures making { OnOk result (Makes boxed.now.instance boxed.now.path maker.new) }
-{
-    let prices = vec![in alloc; 0; boxed.instance().sites()]?;
-    let duals = Duals::from_lists(q, 0, Vec::from_slice(alloc, values)?, prices);
-    if duals.customers() != boxed.instance().custs() {
-        return Ok(maker.bound());
-    }
-    if is_fit(&duals, boxed.instance()) {
-        maker.take(boxed, order, &duals);
-        return Ok(maker.bound());
-    }
-    Ok(maker.bound())
-}
-
-// Whether the plain bound is 2, duals that come to no more are refused, and those of another scale, and
-// those of 3 are taken, above which no finer ones come.
-fn points(
-    alloc: Global,
-    boxed: &PreparedBox<'_>,
-    order: &LaneOrder,
-    maker: &mut LeafMaker,
-) -> Result<bool, NoMemory>
-    requires order { IsOrderOf order.now boxed.now.instance }
-    requires making { Makes boxed.now.instance boxed.now.path maker.old }
-{
-    let plain = maker.bound();
-    let lower = bound_with(alloc, boxed, order, maker, 1, &[2_000_000, 0, 0])?;
-    let scaled = bound_with(
+    let order = LaneOrder::of(alloc, inst)?;
+    let tree = Tree::root(alloc, inst)?;
+    grow(
         alloc,
-        boxed,
-        order,
-        maker,
-        2,
-        &[2_000_000, 2_000_000, 2_000_000],
-    )?;
-    let higher = bound_with(
-        alloc,
-        boxed,
-        order,
-        maker,
-        1,
-        &[1_000_000, 1_000_000, 1_000_000],
-    )?;
-    let unit = 1_000_000_000_000;
-    let finer = bound_with(alloc, boxed, order, maker, MAX_SCALE, &[unit, unit, unit])?;
-    let closes = maker.closes(Some(3_000_000));
-    Ok(
-        plain == 2_000_000
-            && lower == 2_000_000
-            && scaled == 2_000_000
-            && higher == 3_000_000
-            && finer == 3_000_000
-            && closes,
+        inst,
+        &order,
+        &mut PlainStrategy,
+        tree,
+        &[false],
+        None,
+        budget,
     )
 }
 
-// Whether the plain ascent, which gains, is left for a better one with just these slacks.
-fn settles(boxed: &PreparedBox<'_>, order: &LaneOrder, maker: &mut LeafMaker) -> bool
-    requires order { IsOrderOf order.now boxed.now.instance }
-    requires making { Makes boxed.now.instance boxed.now.path maker.old }
-{
-    let plain = maker.bound();
-    maker.settle(boxed, order);
-    let best = maker.bound();
-    plain == 2_000_000 && best == 4_000_000 && maker.slacks() == [0, 0].as_slice()
-}
-
-// Whether both sites are tight, at the best duals and in the plain ascent.
-fn is_tight(alloc: Global, boxed: &PreparedBox<'_>, maker: &LeafMaker) -> Result<bool, NoMemory>
-    requires making { Makes boxed.now.instance boxed.now.path maker.now }
-{
-    let both = [SiteId::new(1), SiteId::new(2)];
-    Ok(
-        maker.tight_sites(alloc, boxed)?.as_slice() == both.as_slice()
-            && maker.plain_tight_sites() == both.as_slice(),
-    )
-}
-
-fn points_at_root(alloc: Global, inst: &Instance) -> Result<bool, NoMemory> {
-    let root = Path::root(alloc);
-    let boxed = PreparedBox::of(alloc, inst, &root)?;
-    let order = LaneOrder::of(alloc, inst)?;
-    let mut maker = maker(alloc, &boxed, &order)?;
-    points(alloc, &boxed, &order, &mut maker)
-}
-
-fn settles_at_root(alloc: Global, inst: &Instance) -> Result<bool, NoMemory> {
-    let root = Path::root(alloc);
-    let boxed = PreparedBox::of(alloc, inst, &root)?;
-    let order = LaneOrder::of(alloc, inst)?;
-    let mut maker = maker(alloc, &boxed, &order)?;
-    Ok(is_tight(alloc, &boxed, &maker)? && settles(&boxed, &order, &mut maker))
-}
-
-// Whether the first customer is the first one unserved where both sites that serve it are closed, and
-// the ray shows that.
-fn shows_unserved(alloc: Global, inst: &Instance) -> Result<bool, NoMemory> {
-    let mut path = Path::root(alloc);
-    path.push(Decision::Closed(SiteId::new(1)))?;
-    path.push(Decision::Closed(SiteId::new(3)))?;
-    let boxed = PreparedBox::of(alloc, inst, &path)?;
-    let order = LaneOrder::of(alloc, inst)?;
-    match first_unserved(&boxed, &order) {
-        None => Ok(false),
-        Some(cust) => {
-            let ray = unserved_ray(alloc, &boxed, cust)?;
-            Ok(cust == 0 && bound(inst, &path, &ray) == 1)
-        }
+// Whether the search came to an end, and the least cost that it leaves: 0 where no plan is feasible.
+fn claimed(answer: Answer) -> (bool, u64) {
+    match answer {
+        Answer::Optimal { cost, .. } => (true, cost),
+        Answer::Infeasible { .. } => (true, 0),
+        Answer::Bracket { low, .. } => (false, low),
     }
+}
+
+// Whether a search with this budget comes to an end or not, as it should, with a cost between these.
+fn claims(
+    alloc: Global,
+    inst: &Instance,
+    budget: u32,
+    ends: bool,
+    least: u64,
+    most: u64,
+) -> Result<bool, NoMemory> {
+    if budget > max_nodes(inst) {
+        return Ok(false);
+    }
+    let (ended, cost) = claimed(searched(alloc, inst, budget)?);
+    Ok(ended == ends && least <= cost && cost <= most)
 }
 
 #[test]
-fn points_above_the_plain_ascent(rt: HostRuntime) -> Result<(), Fail> {
-    let inst = ring(rt.alloc())?;
-    assert!(rt; points_at_root(rt.alloc(), &inst)?);
-    assert!(rt; shows_unserved(rt.alloc(), &inst)?);
+fn splits_within_the_budget(rt: HostRuntime) -> Result<(), Fail> {
+    let ring = ring(rt.alloc())?;
+    // The plain ascent shows 2 units and no duals more than 3.
+    assert!(rt; claims(rt.alloc(), &ring, 1, false, 2_000_000, 3_000_000)?);
+    // Trees of three sites have at most 15 nodes.
+    assert!(rt; claims(rt.alloc(), &ring, 15, true, 4_000_000, 4_000_000)?);
     Ok(())
 }
 
 #[test]
-fn settles_above_the_plain_ascent(rt: HostRuntime) -> Result<(), Fail> {
-    let inst = shared(rt.alloc())?;
-    assert!(rt; settles_at_root(rt.alloc(), &inst)?);
+fn keeps_capacities_and_counts(rt: HostRuntime) -> Result<(), Fail> {
+    let two = warehouses(rt.alloc())?;
+    assert!(rt; claims(rt.alloc(), &two, 127, true, 7_504_750_000, 7_504_750_000)?);
+    let four = road(rt.alloc(), 4, 4, 0)?;
+    assert!(rt; claims(rt.alloc(), &four, 1, true, 0, 0)?);
     Ok(())
 }

@@ -8,7 +8,8 @@ ghost use Rattle.tree_search.specs.Rays.{IsRayless};
 ghost use Rattle.tree_search.specs.Making.{LowersNone, IsMaking};
 ghost use Rattle.tree_search.specs.Best.{Improves};
 ghost use Rattle.tree_search.specs.Searching.{IsAt, GoesOn};
-ghost use Rattle.tree_search.specs.Working.{ClosesWith, IsOpenSplit, IsPressed, IsSettled, IsVerdict, IsWorked};
+ghost use Rattle.tree_search.specs.Made.{IsOpenSplit};
+ghost use Rattle.tree_search.specs.Working.{ClosesWith, IsPressed, IsSettled, IsVerdict, IsWorked};
 
 use crate::rays::ray;
 use crate::search::Search;
@@ -18,6 +19,7 @@ use branch_tree::Split;
 use dual_value::{Duals, Path, PreparedBox};
 use instance_store::NoMemory;
 use plan_search::packed_in;
+use strategy_port::Strategy;
 
 /// What the work on a box comes to.
 #[derive(Drop)]
@@ -29,9 +31,10 @@ pub(crate) struct Worked {
 }
 
 /// Works the box of the path, where the leaf with the duals `replaced` is replaced and those of a box
-/// nearby are `near`. Better plans that it finds go to the search. It fails only where memory runs out.
-pub(crate) fn work(
+/// nearby are `near`. Better plans that are found go to the search. It fails only where memory runs out.
+pub(crate) fn work<S: Strategy>(
     search: &mut Search<'_>,
+    strategy: &mut S,
     path: &Path,
     replaced: &Duals,
     near: &Duals,
@@ -47,13 +50,14 @@ pub(crate) fn work(
     let found = ray(search.alloc, &boxed, search.order)?;
     match found {
         Some(duals) => Ok(Worked { duals, split: None }),
-        None => rayless(search, &boxed, replaced, near, may_split),
+        None => rayless(search, strategy, &boxed, replaced, near, may_split),
     }
 }
 
 // In a box that no simple ray closes.
-fn rayless(
+fn rayless<S: Strategy>(
     search: &mut Search<'_>,
+    strategy: &mut S,
     boxed: &PreparedBox<'_>,
     replaced: &Duals,
     near: &Duals,
@@ -70,13 +74,14 @@ fn rayless(
     search
         .leaf
         .enter(search.alloc, boxed, search.order, replaced, near)?;
-    let worked = made(search, boxed, may_split)?;
+    let worked = made(search, strategy, boxed, may_split)?;
     Ok(worked)
 }
 
 // Makes the leaf as strong as it gets, and sees whether it has to be split.
-fn made(
+fn made<S: Strategy>(
     search: &mut Search<'_>,
+    strategy: &mut S,
     boxed: &PreparedBox<'_>,
     may_split: bool,
 ) -> Result<Worked, NoMemory>
@@ -89,15 +94,19 @@ fn made(
 {
     // An instance is valid, so that bounds hold.
     let _sites = search.instance().sites();
-    press(search, boxed)?;
+    press(search, strategy, boxed)?;
     search.leaf.settle(boxed, search.order);
-    let split = verdict(search, boxed, may_split)?;
+    let split = verdict(search, strategy, boxed, may_split)?;
     let duals = search.leaf.duals().copied()?;
     Ok(Worked { duals, split })
 }
 
 // While the leaf is open: packs a plan at the tight sites of the plain ascent, and makes it stronger.
-fn press(search: &mut Search<'_>, boxed: &PreparedBox<'_>) -> Result<(), NoMemory>
+fn press<S: Strategy>(
+    search: &mut Search<'_>,
+    strategy: &mut S,
+    boxed: &PreparedBox<'_>,
+) -> Result<(), NoMemory>
     requires { IsAt boxed.now search.old }
     ensures on { OnOk result (GoesOn boxed.now search.old search.new) }
     ensures pressed { OnOk result (IsPressed boxed.now.instance search.new.best.plan boxed.now.path search.old.leaf.plain search.new.leaf.best.duals) }
@@ -115,14 +124,15 @@ fn press(search: &mut Search<'_>, boxed: &PreparedBox<'_>) -> Result<(), NoMemor
     if is_closed(search, boxed) {
         return Ok(());
     }
-    strengthen(search, boxed)?;
+    strengthen(search, strategy, boxed)?;
     Ok(())
 }
 
 // Where the leaf is open: packs a plan at the tight sites of the best duals, and says how the box is split,
 // if it still is open and may be.
-fn verdict(
+fn verdict<S: Strategy>(
     search: &mut Search<'_>,
+    strategy: &mut S,
     boxed: &PreparedBox<'_>,
     may_split: bool,
 ) -> Result<Option<Split>, NoMemory>
@@ -145,25 +155,24 @@ fn verdict(
     if is_closed(search, boxed) {
         return Ok(None);
     }
-    Ok(split_of(search, boxed))
+    Ok(split_of(search, strategy, boxed))
 }
 
 // How the box is split: on a free site, where one is left, and else, where some site has a capacity, on a
-// lane. None where nothing is left to decide.
-fn split_of(search: &mut Search<'_>, boxed: &PreparedBox<'_>) -> Option<Split>
-    requires { IsAt boxed.now search.old }
+// lane; as the strategy wishes, if that is so. None where nothing is left to decide.
+fn split_of<S: Strategy>(
+    search: &Search<'_>,
+    strategy: &mut S,
+    boxed: &PreparedBox<'_>,
+) -> Option<Split>
+    requires { IsAt boxed.now search.now }
     ensures some { IfSome result (IsOpenSplit boxed.now.instance boxed.now.path) }
     ensures none { IfNone result (IsSettled boxed.now.instance boxed.now.path) }
-    ensures same { search.new ≡ search.old }
 {
-    let missing = search.missing();
-    let slacks = search.leaf.slacks();
-    match split_place(boxed, slacks, missing, search.helpers.shares()) {
+    let wish = strategy.wish(&search.scene(boxed));
+    match split_place(boxed, search.leaf.slacks(), wish) {
         Some(place) => Some(Split::Site(boxed.instance().site_id(place))),
-        None => {
-            let wanted = search.wanted_lane();
-            split_lane(boxed, search.order, wanted)
-        }
+        None => split_lane(boxed, search.order, wish),
     }
 }
 

@@ -1,81 +1,125 @@
-use Rattle.std.proofs.Common.{◌≡◌, ◌+◌, ◌-◌, ◌≤◌, refl, sym, subst, arith, true, false, Some}
+use Rattle.std.proofs.Common.{◌≡◌, ◌+◌, ◌-◌, ◌≤◌, refl, sym, subst, ap, ◌∙◌, arith, true, false, Some, length}
 use Rattle.std.specs.Prelude.{IfSome, slice_get}
-use Rattle.location_terms.specs.Instance.{Instance, IsValid}
-use Rattle.location_terms.specs.Tree.{leaves_of}
+use Rattle.location_terms.specs.Instance.{Instance, IsValid, site_ids, customer_ids}
 use Rattle.tree_search.specs.Regrown.{IsKnownLeaf, IsGrownAt}
 use Rattle.tree_search.proofs.Closer.{no_worse_same}
 use Rattle.tree_search.proofs.Offered.{improved_in, improves_again}
-use Rattle.tree_search.proofs.Regrows.{regrown_start, leaf_within, leaf_known, held_step, grown_step, made_fits, told_at}
+use Rattle.tree_search.proofs.Regrows.{regrown_start, leaf_left, leaf_known, on_sites, on_customers, nodes_so_far, held_step, grown_step, made_fits, regrown, told_at}
 use Rattle.tree_search.proofs.growing.grow_open.Goals as goal
 
-pub loop-left-init : goal.loop-left-init
-loop-left-init c =
+pub loop-place-init : goal.loop-place-init
+loop-place-init g c =
     let I = c.args.search.now.best.instance in
     let valid : IsValid I = subst IsValid c.instance.ensures c.sites-sites.ensures.valid in
     record {
       improves = record { same = refl; no_worse = no_worse_same I c.args.search.now.best.plan };
-      regrown = regrown_start I valid c.args.tree.now c.args.search.now.best.plan c.args.budget c.args.held.now c.requires.held;
-      within = omega arith;
+      looked = regrown_start I valid c.args.tree c.args.search.now.best.plan c.args.budget c.args.held.now c.requires.held c.in_ok-renewal.renewal c.in_ok-renewal.ensures;
     }
 
-pub grow_at-requires-clause-within : goal.grow_at-requires-clause-within
-grow_at-requires-clause-within c =
-    let h = c.loop-left.invariant in
+pub stay-requires : goal.stay-requires
+stay-requires g c =
+    let h = c.loop-place.invariant in
     let I = c.args.search.now.best.instance in
     let valid : IsValid I = subst IsValid c.instance.ensures c.sites-sites.ensures.valid in
-    leaf_within I valid c.args.tree.now c.args.search.now.best.plan c.args.budget c.args.held.now c.requires.held
-    c.nodes-nodes.ensures.tree c.requires.stands c.requires.fit c.loop-left.search.best.plan c.loop-left.tree c.loop-left.made c.loop-left.left (c.loop-left.left - 1) (omega (arith, c.loop-left-test.true)) h.within h.regrown
+    leaf_left I valid c.args.tree c.args.search.now.best.plan c.args.budget c.args.held.now c.requires.held
+    c.nodes-nodes.ensures.tree c.requires.stands c.requires.fit c.loop-place.search.best.plan c.loop-place.renewal c.loop-place.made c.loop-place.place c.loop-place-test.true h.looked.0 h.looked.1
+
+pub overflow_sub-budget : goal.overflow_sub-budget
+overflow_sub-budget g c = c.loop-place.invariant.looked.0.within
+
+pub grow_at-requires-clause-sites : goal.grow_at-requires-clause-sites
+grow_at-requires-clause-sites g c =
+    let h = c.loop-place.invariant in
+    let I = c.args.search.now.best.instance in
+    let valid : IsValid I = subst IsValid c.instance.ensures c.sites-sites.ensures.valid in
+    on_sites I valid c.args.tree c.args.search.now.best.plan c.args.budget c.args.held.now c.requires.held
+    c.nodes-nodes.ensures.tree c.requires.stands c.requires.fit c.loop-place.search.best.plan c.loop-place.renewal c.loop-place.made c.loop-place.place c.loop-place-test.true h.looked.0 h.looked.1
+    ∙ sym (ap site_ids h.improves.same)
+
+pub grow_at-requires-clause-customers : goal.grow_at-requires-clause-customers
+grow_at-requires-clause-customers g c =
+    let h = c.loop-place.invariant in
+    let I = c.args.search.now.best.instance in
+    let valid : IsValid I = subst IsValid c.instance.ensures c.sites-sites.ensures.valid in
+    on_customers I valid c.args.tree c.args.search.now.best.plan c.args.budget c.args.held.now c.requires.held
+    c.nodes-nodes.ensures.tree c.requires.stands c.requires.fit c.loop-place.search.best.plan c.loop-place.renewal c.loop-place.made c.loop-place.place c.loop-place-test.true h.looked.0 h.looked.1
+    ∙ sym (ap customer_ids h.improves.same)
+
+pub grow_at-requires-clause-left : goal.grow_at-requires-clause-left
+grow_at-requires-clause-left g c =
+    let h = c.loop-place.invariant in
+    let I = c.args.search.now.best.instance in
+    let valid : IsValid I = subst IsValid c.instance.ensures c.sites-sites.ensures.valid in
+    leaf_left I valid c.args.tree c.args.search.now.best.plan c.args.budget c.args.held.now c.requires.held
+    c.nodes-nodes.ensures.tree c.requires.stands c.requires.fit c.loop-place.search.best.plan c.loop-place.renewal c.loop-place.made c.loop-place.place c.loop-place-test.true h.looked.0 h.looked.1
 
 pub grow_at-requires-clause-known : goal.grow_at-requires-clause-known
-grow_at-requires-clause-known c =
-    let h = c.loop-left.invariant in
+grow_at-requires-clause-known g c =
+    let h = c.loop-place.invariant in
     let I = c.args.search.now.best.instance in
     let valid : IsValid I = subst IsValid c.instance.ensures c.sites-sites.ensures.valid in
-    subst (λ (J : Instance). IfSome (slice_get (leaves_of c.loop-left.tree) (c.loop-left.left - 1)) (λ l. IsKnownLeaf J l.0 l.1)) (sym h.improves.same)
-    (leaf_known I valid c.args.tree.now c.args.search.now.best.plan c.args.budget c.args.held.now c.requires.held
-    c.nodes-nodes.ensures.tree c.requires.stands c.requires.fit c.loop-left.search.best.plan c.loop-left.tree c.loop-left.made c.loop-left.left (c.loop-left.left - 1) (omega (arith, c.loop-left-test.true)) h.within h.regrown)
+    subst (λ (J : Instance). IfSome (slice_get c.loop-place.renewal.ahead 0) (λ l. IsKnownLeaf J l.0 l.1)) (sym h.improves.same)
+    (leaf_known I valid c.args.tree c.args.search.now.best.plan c.args.budget c.args.held.now c.requires.held
+    c.nodes-nodes.ensures.tree c.requires.stands c.requires.fit c.loop-place.search.best.plan c.loop-place.renewal c.loop-place.made c.loop-place.place c.loop-place-test.true h.looked.0 h.looked.1)
+
+pub grow_at-requires-clause-few : goal.grow_at-requires-clause-few
+grow_at-requires-clause-few g c =
+    let h = c.loop-place.invariant in
+    let I = c.args.search.now.best.instance in
+    let valid : IsValid I = subst IsValid c.instance.ensures c.sites-sites.ensures.valid in
+    let nodes = nodes_so_far I valid c.args.tree c.args.search.now.best.plan c.args.budget c.args.held.now c.requires.held
+    c.nodes-nodes.ensures.tree c.requires.stands c.requires.fit c.loop-place.search.best.plan c.loop-place.renewal c.loop-place.made c.loop-place.place c.loop-place-test.true h.looked.0 h.looked.1 in
+    omega (arith, nodes, c.requires.few, h.looked.0.within)
 
 pub overflow_add-made : goal.overflow_add-made
-overflow_add-made c =
-    let h = c.loop-left.invariant in
+overflow_add-made g c =
+    let h = c.loop-place.invariant in
     let I = c.args.search.now.best.instance in
     let valid : IsValid I = subst IsValid c.instance.ensures c.sites-sites.ensures.valid in
-    let fits : c.loop-left.made + c.in_ok-made.field-0 ≤ c.args.budget =
-    made_fits I valid c.args.tree.now c.args.search.now.best.plan c.args.budget c.args.held.now c.requires.held
-    c.nodes-nodes.ensures.tree c.requires.stands c.requires.fit c.loop-left.search.best.plan c.loop-left.tree c.loop-left.made c.loop-left.left (c.loop-left.left - 1) (omega (arith, c.loop-left-test.true)) h.within h.regrown
-    c.grow_at.new.search.best.plan c.grow_at.new.tree c.in_ok-made.field-0
-    (subst (λ (J : Instance). IsGrownAt J c.loop-left.tree (c.loop-left.left - 1) c.loop-left.search.best.plan c.grow_at.new.search.best.plan (c.args.budget - c.loop-left.made) c.grow_at.new.tree c.in_ok-made.field-0) h.improves.same c.in_ok-made.ensures.grown) in
+    let grown : IsGrownAt I c.loop-place.renewal c.loop-place.search.best.plan c.grow_at.new.search.best.plan (c.args.budget - c.loop-place.made) c.in_ok-grown.grown c.in_ok-grown.more =
+    subst (λ (J : Instance). IsGrownAt J c.loop-place.renewal c.loop-place.search.best.plan c.grow_at.new.search.best.plan (c.args.budget - c.loop-place.made) c.in_ok-grown.grown c.in_ok-grown.more) h.improves.same c.in_ok-grown.ensures.grown in
+    let fits = made_fits I valid c.args.tree c.args.search.now.best.plan c.args.budget c.args.held.now c.requires.held
+    c.nodes-nodes.ensures.tree c.requires.stands c.requires.fit c.loop-place.search.best.plan c.loop-place.renewal c.loop-place.made c.loop-place.place c.loop-place-test.true h.looked.0 h.looked.1
+    c.grow_at.new.search.best.plan c.in_ok-grown.grown c.in_ok-grown.more grown in
     omega (arith, fits, c.requires.few)
 
-pub loop-left-preserved-then-not-held-left : goal.loop-left-preserved-then-not-held-left
-loop-left-preserved-then-not-held-left c =
-    let h = c.loop-left.invariant in
+pub loop-place-preserved-then-held-place : goal.loop-place-preserved-then-held-place
+loop-place-preserved-then-held-place g c =
+    let h = c.loop-place.invariant in
+    let I = c.args.search.now.best.instance in
+    let valid : IsValid I = subst IsValid c.instance.ensures c.sites-sites.ensures.valid in
+    record {
+      improves = h.improves;
+      looked = held_step I valid c.args.tree c.args.search.now.best.plan c.args.budget c.args.held.now c.requires.held
+          c.nodes-nodes.ensures.tree c.requires.stands c.requires.fit c.loop-place.search.best.plan c.loop-place.renewal c.loop-place.made c.loop-place.place c.loop-place-test.true h.looked.0 h.looked.1
+          (told_at c.args.held.now c.loop-place.place true c.loop-place-test.true c.if-held-place.true) h.improves.no_worse c.in_ok-renewal-2.renewal c.in_ok-renewal-2.ensures;
+    }
+
+pub loop-place-preserved : goal.loop-place-preserved
+loop-place-preserved g c =
+    let h = c.loop-place.invariant in
     let I = c.args.search.now.best.instance in
     let valid : IsValid I = subst IsValid c.instance.ensures c.sites-sites.ensures.valid in
     let now = c.grow_at.new.search.best in
-    let better = improved_in I c.loop-left.search.best now h.improves.same c.in_ok-made.ensures.plan in
-    let not_held : slice_get c.args.held.now (c.loop-left.left - 1) ≡ Some false = told_at c.args.held.now (c.loop-left.left - 1) false (omega (arith, h.within, c.loop-left-test.true)) c.if-not-held-left.true in
+    let better = improved_in I c.loop-place.search.best now h.improves.same c.in_ok-grown.ensures.plan in
+    let grown : IsGrownAt I c.loop-place.renewal c.loop-place.search.best.plan now.plan (c.args.budget - c.loop-place.made) c.in_ok-grown.grown c.in_ok-grown.more =
+    subst (λ (J : Instance). IsGrownAt J c.loop-place.renewal c.loop-place.search.best.plan now.plan (c.args.budget - c.loop-place.made) c.in_ok-grown.grown c.in_ok-grown.more) h.improves.same c.in_ok-grown.ensures.grown in
     record {
-      improves = improves_again c.args.search.now.best c.loop-left.search.best now h.improves c.in_ok-made.ensures.plan;
-      regrown =
-          grown_step I valid c.args.tree.now c.args.search.now.best.plan c.args.budget c.args.held.now c.requires.held
-          c.nodes-nodes.ensures.tree c.requires.stands c.requires.fit c.loop-left.search.best.plan c.loop-left.tree c.loop-left.made c.loop-left.left (c.loop-left.left - 1) (omega (arith, c.loop-left-test.true)) h.within h.regrown
-          not_held h.improves.no_worse now.plan c.grow_at.new.tree c.in_ok-made.field-0 better
-          (subst (λ (J : Instance). IsGrownAt J c.loop-left.tree (c.loop-left.left - 1) c.loop-left.search.best.plan c.grow_at.new.search.best.plan (c.args.budget - c.loop-left.made) c.grow_at.new.tree c.in_ok-made.field-0) h.improves.same c.in_ok-made.ensures.grown);
-      within = omega (arith, h.within);
+      improves = improves_again c.args.search.now.best c.loop-place.search.best now h.improves c.in_ok-grown.ensures.plan;
+      looked = grown_step I valid c.args.tree c.args.search.now.best.plan c.args.budget c.args.held.now c.requires.held
+          c.nodes-nodes.ensures.tree c.requires.stands c.requires.fit c.loop-place.search.best.plan c.loop-place.renewal c.loop-place.made c.loop-place.place c.loop-place-test.true h.looked.0 h.looked.1
+          now.plan c.in_ok-grown.grown c.in_ok-grown.more grown
+          (told_at c.args.held.now c.loop-place.place false c.loop-place-test.true c.if-held-place.false) h.improves.no_worse better;
     }
 
-pub loop-left-preserved : goal.loop-left-preserved
-loop-left-preserved c =
-    let h = c.loop-left.invariant in
+pub returns-clause-plan : goal.returns-clause-plan
+returns-clause-plan g c = c.loop-place.invariant.improves
+
+pub returns-clause-grown : goal.returns-clause-grown
+returns-clause-grown g c =
+    let h = c.loop-place.invariant in
     let I = c.args.search.now.best.instance in
     let valid : IsValid I = subst IsValid c.instance.ensures c.sites-sites.ensures.valid in
-    let is_held : slice_get c.args.held.now (c.loop-left.left - 1) ≡ Some true = told_at c.args.held.now (c.loop-left.left - 1) true (omega (arith, h.within, c.loop-left-test.true)) c.if-not-held-left.false in
-    record {
-      improves = h.improves;
-      regrown =
-          held_step I valid c.args.tree.now c.args.search.now.best.plan c.args.budget c.args.held.now c.requires.held
-          c.nodes-nodes.ensures.tree c.requires.stands c.requires.fit c.loop-left.search.best.plan c.loop-left.tree c.loop-left.made c.loop-left.left (c.loop-left.left - 1) (omega (arith, c.loop-left-test.true)) h.within h.regrown
-          is_held h.improves.no_worse;
-      within = omega (arith, h.within);
-    }
+    let all : length h.looked.0.parts ≡ length c.args.held.now = omega (arith, h.looked.1) in
+    regrown I valid c.args.tree c.args.search.now.best.plan c.args.budget c.args.held.now c.requires.held
+    c.loop-place.search.best.plan c.loop-place.renewal c.loop-place.made h.looked.0 all c.in_ok-finish.field-0 c.in_ok-finish.ensures

@@ -7,21 +7,21 @@ use Rattle.tree_search.proofs.Grew.{reached_at, lists_here, finished, finished_l
 use Rattle.tree_search.proofs.leaf_growth.step.Goals as goal
 
 pub work-requires-clause-path : goal.work-requires-clause-path
-work-requires-clause-path c =
+work-requires-clause-path g c =
     let growing = c.requires.growing in
     let at_work = leaf_is _ c.path.result.now c.duals.result.now c.path.ensures c.duals.ensures in
     let reached = reached_at c.args.search.now.best.instance growing.0 c.args.replaced.now growing.1 c.args.search.now.best.plan c.args.search.now.best.plan c.args.limit c.args.growth.now growing.2 c.requires.left c.path.result.now c.duals.result.now at_work in
     reached.known
 
 pub work-requires-clause-near : goal.work-requires-clause-near
-work-requires-clause-near c =
+work-requires-clause-near g c =
     let growing = c.requires.growing in
     let at_work = leaf_is _ c.path.result.now c.duals.result.now c.path.ensures c.duals.ensures in
     let reached = reached_at c.args.search.now.best.instance growing.0 c.args.replaced.now growing.1 c.args.search.now.best.plan c.args.search.now.best.plan c.args.limit c.args.growth.now growing.2 c.requires.left c.path.result.now c.duals.result.now at_work in
     reached.fit
 
 pub set_duals-requires-clause-lists : goal.set_duals-requires-clause-lists
-set_duals-requires-clause-lists c =
+set_duals-requires-clause-lists g c =
     let I = c.args.search.now.best.instance in
     let growing = c.requires.growing in
     let g = c.args.growth.now in
@@ -31,7 +31,7 @@ set_duals-requires-clause-lists c =
     valid _ c.in_ok-worked.worked.duals c.in_ok-worked.worked.split c.in_ok-worked.ensures.plan.no_worse c.in_ok-worked.ensures.worked
 
 pub split-requires-clause-split : goal.split-requires-clause-split
-split-requires-clause-split c =
+split-requires-clause-split g c =
     let I = c.args.search.now.best.instance in
     let growing = c.requires.growing in
     let g = c.args.growth.now in
@@ -42,7 +42,7 @@ split-requires-clause-split c =
     c.in-Some.split c.in-Some.is c.in_ok-first-in-Some.first c.in_ok-first-in-Some.ensures (room_left c.nodes.result _ c.args.limit c.nodes.ensures)
 
 pub split-requires-clause-second : goal.split-requires-clause-second
-split-requires-clause-second c =
+split-requires-clause-second g c =
     let I = c.args.search.now.best.instance in
     let growing = c.requires.growing in
     let g = c.args.growth.now in
@@ -52,7 +52,7 @@ split-requires-clause-second c =
     valid _ c.in_ok-worked.worked.duals c.in_ok-worked.worked.split c.in_ok-worked.ensures.plan.no_worse c.in_ok-worked.ensures.worked
 
 pub split-requires-clause-first : goal.split-requires-clause-first
-split-requires-clause-first c =
+split-requires-clause-first g c =
     let I = c.args.search.now.best.instance in
     let growing = c.requires.growing in
     let g = c.args.growth.now in
@@ -64,7 +64,7 @@ split-requires-clause-first c =
     subst (HasLists (length g.tree.sites) (length g.tree.customers)) (sym c.in_ok-first-in-Some.ensures) lists
 
 pub returns-in-None-clause-growing : goal.returns-in-None-clause-growing
-returns-in-None-clause-growing c = λ base handed under.
+returns-in-None-clause-growing g c = λ base handed under.
     let I = c.args.search.now.best.instance in
     let growing = c.requires.growing in
     let g = c.args.growth.now in
@@ -77,7 +77,7 @@ returns-in-None-clause-growing c = λ base handed under.
     c.in-None.is (room_spent c.nodes.result _ c.args.limit c.nodes.ensures))
 
 pub returns-in-None-clause-less : goal.returns-in-None-clause-less
-returns-in-None-clause-less c =
+returns-in-None-clause-less g c =
     let I = c.args.search.now.best.instance in
     let growing = c.requires.growing in
     let g = c.args.growth.now in
@@ -90,7 +90,7 @@ returns-in-None-clause-less c =
     c.in-None.is (room_spent c.nodes.result _ c.args.limit c.nodes.ensures))
 
 pub returns-in_ok-split-in-Some-clause-growing : goal.returns-in_ok-split-in-Some-clause-growing
-returns-in_ok-split-in-Some-clause-growing c = λ base handed under.
+returns-in_ok-split-in-Some-clause-growing g c = λ base handed under.
     let I = c.args.search.now.best.instance in
     let growing = c.requires.growing in
     let g = c.args.growth.now in
@@ -102,7 +102,7 @@ returns-in_ok-split-in-Some-clause-growing c = λ base handed under.
     c.in-Some.split c.in-Some.is c.in_ok-first-in-Some.first c.in_ok-first-in-Some.ensures (room_left c.nodes.result _ c.args.limit c.nodes.ensures))
 
 pub returns-in_ok-split-in-Some-clause-less : goal.returns-in_ok-split-in-Some-clause-less
-returns-in_ok-split-in-Some-clause-less c =
+returns-in_ok-split-in-Some-clause-less g c =
     let I = c.args.search.now.best.instance in
     let growing = c.requires.growing in
     let g = c.args.growth.now in

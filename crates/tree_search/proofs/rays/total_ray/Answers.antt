@@ -13,7 +13,7 @@ pub returns-then-closes : goal.returns-then-closes
 returns-then-closes c =
     let I = c.args.boxed.now.instance in
     let path = c.args.boxed.now.path in
-    let at = ap (λ (K : Instance). bound_of K c.path.result.now c.from_lists-ray.result) c.instance-inst.ensures ∙ ap (λ (p : Path). bound_of I p c.from_lists-ray.result) c.path.ensures ∙ ap (λ (d : Duals). bound_of I path d) c.from_lists-ray.ensures in
+    let at = ap (λ (K : Instance). bound_of K c.deref.result.now c.from_lists-ray.result) c.instance-inst.ensures ∙ ap (λ (p : Path). bound_of I p c.from_lists-ray.result) (c.deref.ensures ∙ c.path.ensures) ∙ ap (λ (d : Duals). bound_of I path d) c.from_lists-ray.ensures in
     let ray : IsRayIn I path c.from_lists-ray.result = record {
       scale = ap (λ (d : Duals). d.q) c.from_lists-ray.ensures;
       made = λ old_path old. judged_is_made I c.instance-inst.result.now c.instance-inst.ensures path c.in_ok-demands.field-0.items c.in_ok-cap_prices.field-0.items

@@ -8,8 +8,8 @@ pub returns-then-admits : goal.returns-then-admits
 returns-then-admits c =
     let I = c.args.boxed.now.instance in
     let path = c.args.boxed.now.path in
-    let i = c.in_ok-site.field-0.site in
-    let j = c.in_ok-site.field-0.cust in
+    let i = c.in-Some-Lane.site in
+    let j = c.in-Some-Lane.cust in
     let service = subst (IsServiceOf I path j) c.in-Several.is c.service_of.ensures in
     record {
       some = open_lane I path (subst IsValid c.instance-inst.ensures c.sites.ensures.valid) i j

@@ -12,22 +12,22 @@ use Rattle.tree_search.proofs.Verdicts.{worked_from}
 use Rattle.tree_search.proofs.work.made.Goals as goal
 
 pub settle-requires-clause-order : goal.settle-requires-clause-order
-settle-requires-clause-order c = order_in c.args.boxed.now.instance c.press.new.search c.in_ok-press.ensures.on.at.instance c.search.inside.order.now c.search.inside.incumbent c.search.inside.leaf c.search.inside.helpers c.search.invariant c.search.view_is
+settle-requires-clause-order g c = order_in c.args.boxed.now.instance c.press.new.search c.in_ok-press.ensures.on.at.instance c.search.inside.order.now c.search.inside.incumbent c.search.inside.leaf c.search.invariant c.search.view_is
 
 pub settle-requires-clause-making : goal.settle-requires-clause-making
-settle-requires-clause-making c = makes_in c.args.boxed.now c.press.new.search c.in_ok-press.ensures.on.at c.search.inside.incumbent c.search.inside.leaf c.search.view_is
+settle-requires-clause-making g c = makes_in c.args.boxed.now c.press.new.search c.in_ok-press.ensures.on.at c.search.inside.incumbent c.search.inside.leaf c.search.view_is
 
 pub verdict-requires : goal.verdict-requires
-verdict-requires c = (goes_with c.args.boxed.now c.press.new.search c.in_ok-press.ensures.on.at c.search.inside.incumbent c.search.inside.leaf c.search.view_is c.settle.new.self c.settle.ensures.stays).at
+verdict-requires g c = (goes_with c.args.boxed.now c.press.new.search c.in_ok-press.ensures.on.at c.search.inside.incumbent c.search.inside.leaf c.search.view_is c.settle.new.self c.settle.ensures.stays).at
 
 pub returns-clause-plan : goal.returns-clause-plan
-returns-clause-plan c =
+returns-clause-plan g c =
     let incumbent : c.search.inside.incumbent ≡ c.press.new.search.best = ap (λ (s : Searching). s.best) c.search.view_is in
     let second : Improves c.press.new.search.best c.verdict.new.search.best = subst (λ (x : Best). Improves x c.verdict.new.search.best) incumbent c.in_ok-split.ensures.plan in
     improves_again c.args.search.now.best c.press.new.search.best c.verdict.new.search.best c.in_ok-press.ensures.on.plan second
 
 pub returns-clause-worked : goal.returns-clause-worked
-returns-clause-worked c = λ old under.
+returns-clause-worked g c = λ old under.
     let I = c.args.boxed.now.instance in
     let path = c.args.boxed.now.path in
     let at = c.requires.at in

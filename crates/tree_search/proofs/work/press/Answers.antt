@@ -11,22 +11,22 @@ use Rattle.tree_search.proofs.Going.{goes_same, goes_again, goes_on_plan}
 use Rattle.tree_search.proofs.work.press.Goals as goal
 
 pub returns-then-is_closed-clause-on : goal.returns-then-is_closed-clause-on
-returns-then-is_closed-clause-on c = goes_same c.args.boxed.now _ _ c.requires refl
+returns-then-is_closed-clause-on g c = goes_same c.args.boxed.now _ _ c.requires refl
 
 pub is_closed-requires-2 : goal.is_closed-requires-2
-is_closed-requires-2 c = (goes_on_plan c.args.boxed.now c.args.search.now c.offer.new.self c.requires c.offer.ensures.improves c.offer.ensures.leaf).at
+is_closed-requires-2 g c = (goes_on_plan c.args.boxed.now c.args.search.now c.offer.new.self c.requires c.offer.ensures.improves c.offer.ensures.leaf).at
 
 pub returns-then-is_closed-2-clause-on : goal.returns-then-is_closed-2-clause-on
-returns-then-is_closed-2-clause-on c = goes_on_plan c.args.boxed.now c.args.search.now c.offer.new.self c.requires c.offer.ensures.improves c.offer.ensures.leaf
+returns-then-is_closed-2-clause-on g c = goes_on_plan c.args.boxed.now c.args.search.now c.offer.new.self c.requires c.offer.ensures.improves c.offer.ensures.leaf
 
 pub strengthen-requires : goal.strengthen-requires
-strengthen-requires c = (goes_on_plan c.args.boxed.now c.args.search.now c.offer.new.self c.requires c.offer.ensures.improves c.offer.ensures.leaf).at
+strengthen-requires g c = (goes_on_plan c.args.boxed.now c.args.search.now c.offer.new.self c.requires c.offer.ensures.improves c.offer.ensures.leaf).at
 
 pub returns-clause-on : goal.returns-clause-on
-returns-clause-on c = goes_again c.args.boxed.now _ _ _ (goes_on_plan c.args.boxed.now c.args.search.now c.offer.new.self c.requires c.offer.ensures.improves c.offer.ensures.leaf) c.in_ok-strengthen.ensures
+returns-clause-on g c = goes_again c.args.boxed.now _ _ _ (goes_on_plan c.args.boxed.now c.args.search.now c.offer.new.self c.requires c.offer.ensures.improves c.offer.ensures.leaf) c.in_ok-strengthen.ensures
 
 pub returns-clause-pressed : goal.returns-clause-pressed
-returns-clause-pressed c =
+returns-clause-pressed g c =
     let I = c.args.boxed.now.instance in
     let path = c.args.boxed.now.path in
     let plain = c.args.search.now.leaf.plain in

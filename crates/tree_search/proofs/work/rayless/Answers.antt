@@ -6,20 +6,20 @@ use Rattle.tree_search.proofs.Going.{order_in, maker_in}
 use Rattle.tree_search.proofs.work.rayless.Goals as goal
 
 pub enter-requires-clause-order : goal.enter-requires-clause-order
-enter-requires-clause-order c = order_in c.args.boxed.now.instance c.args.search.now c.requires.instance c.search.inside.order.now c.search.inside.incumbent c.search.inside.leaf c.search.inside.helpers c.search.invariant c.search.view_is
+enter-requires-clause-order g c = order_in c.args.boxed.now.instance c.args.search.now c.requires.instance c.search.inside.order.now c.search.inside.incumbent c.search.inside.leaf c.search.invariant c.search.view_is
 
 pub enter-requires-clause-maker : goal.enter-requires-clause-maker
-enter-requires-clause-maker c = maker_in c.args.boxed.now.instance c.args.search.now c.requires.instance c.search.inside.order.now c.search.inside.incumbent c.search.inside.leaf c.search.inside.helpers c.search.invariant c.search.view_is
+enter-requires-clause-maker g c = maker_in c.args.boxed.now.instance c.args.search.now c.requires.instance c.search.inside.order.now c.search.inside.incumbent c.search.inside.leaf c.search.invariant c.search.view_is
 
 pub made-requires-clause-at : goal.made-requires-clause-at
-made-requires-clause-at c = record {
+made-requires-clause-at g c = record {
   instance = ap (λ (s : Searching). s.best.instance) c.search.view_is ∙ c.requires.instance;
   path = c.requires.path;
   making = (c.args.boxed.now.path, c.args.replaced.now, c.in_ok-enter.ensures.making c.args.boxed.now.path (λ d. omega (arith, ints)));
 }
 
 pub returns-clause-plan : goal.returns-clause-plan
-returns-clause-plan c = subst (λ (x : Best). Improves x c.made.new.search.best) (ap (λ (s : Searching). s.best) c.search.view_is) c.in_ok-worked.ensures.plan
+returns-clause-plan g c = subst (λ (x : Best). Improves x c.made.new.search.best) (ap (λ (s : Searching). s.best) c.search.view_is) c.in_ok-worked.ensures.plan
 
 pub returns-clause-worked : goal.returns-clause-worked
-returns-clause-worked c = c.in_ok-worked.ensures.worked c.args.replaced.now c.in_ok-enter.ensures.making
+returns-clause-worked g c = c.in_ok-worked.ensures.worked c.args.replaced.now c.in_ok-enter.ensures.making

@@ -5,7 +5,7 @@ use Rattle.tree_search.proofs.Verdicts.{worked_in, ray_worked}
 use Rattle.tree_search.proofs.work.work.Goals as goal
 
 pub returns-in-Some-clause-worked : goal.returns-in-Some-clause-worked
-returns-in-Some-clause-worked c =
+returns-in-Some-clause-worked g c =
     let b = c.in_ok-boxed.boxed in
     let d = c.in-Some.duals in
     let ray : IsRayIn b.instance b.path d = subst (λ o. IfSome o (IsRayIn b.instance b.path)) c.in-Some.is c.in_ok-found.ensures.ray in

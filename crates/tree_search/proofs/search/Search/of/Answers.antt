@@ -1,7 +1,6 @@
-use Rattle.std.proofs.Common.{◌∙◌, sym, ap, subst}
+use Rattle.std.proofs.Common.{sym, subst}
 use Rattle.location_terms.specs.Instance.{Instance}
 use Rattle.lane_order.specs.Order.{IsOrderOf}
-use Rattle.dual_steps.specs.Sizes.{sizes_of}
 use Rattle.tree_search.specs.Making.{IsMakerFor}
 use Rattle.tree_search.proofs.search.Search.of.Goals as goal
 
@@ -11,5 +10,4 @@ invariant_of-result c =
     record {
       order = subst (IsOrderOf c.args.order.now) (sym same) c.requires.order;
       maker = subst (λ (J : Instance). IsMakerFor J c.in_ok-leaf.leaf) (sym same) c.in_ok-leaf.ensures;
-      sizes = c.in_ok-helpers.ensures ∙ ap sizes_of (sym same);
     }

@@ -1,0 +1,96 @@
+//! The numbers of the strategy. Each was chosen on the instances of `bench/solve.py`, where nothing else is said;
+//! `docs/PERFORMANCE.md` has the figures.
+
+use crate::plans::Hint;
+
+// Without capacities: rounds of steps in the first box of a search.
+
+/// The most rounds.
+pub(crate) const ROUNDS: u32 = 40;
+
+/// The steps of a round, and after how many misses smoothed ones become shorter.
+pub(crate) const ROUND_STEPS: u32 = 100;
+
+pub(crate) const ROUND_MISSES: u32 = 20;
+
+/// By which part of a whole step smoothed steps begin.
+pub(crate) const ROUND_FACTOR: f64 = 0.5;
+
+/// Sweeps behind the steps of a round that came near the target.
+pub(crate) const ROUND_SWEEPS: u32 = 30;
+
+/// Parts of the target: where less is left the first round goes on to it exactly, a later one does, and one of
+/// smoothed steps changes over to such steps.
+pub(crate) const FIRST_PART: f64 = 0.002;
+
+pub(crate) const LATER_PART: f64 = 0.0001;
+
+pub(crate) const STALLED_PART: f64 = 0.0005;
+
+/// Where more than this part is left, the gain of a round is asked for in greater parts.
+pub(crate) const WIDE_PART: f64 = 0.01;
+
+/// How often smoothed steps change over to exact ones.
+pub(crate) const MAX_CHANGES: u32 = 3;
+
+// Without capacities: the other boxes.
+
+/// Where less than this part of the target is left, the bound may come up to it.
+pub(crate) const NEAR: f64 = 0.0001;
+
+/// How many steps are taken, after how many misses they become shorter, and by which part of a whole step they begin.
+pub(crate) const NODE_STEPS: u32 = 30;
+
+pub(crate) const NODE_MISSES: u32 = 5;
+
+pub(crate) const NODE_FACTOR: f64 = 0.15;
+
+/// Where each site is taken by nearly all evaluations or by nearly none, but for this share of them, the box may
+/// close without a split.
+pub(crate) const DECIDED: f64 = 0.1;
+
+/// Rounds to the target, each of so many steps and sweeps.
+pub(crate) const CLOSING_ROUNDS: u32 = 10;
+
+pub(crate) const CLOSING_STEPS: u32 = 100;
+
+pub(crate) const CLOSING_SWEEPS: u32 = 50;
+
+// With capacities.
+
+/// The scale of leaves where some site has a capacity.
+pub(crate) const CAPACITY_SCALE: u32 = 1000;
+
+/// Steps in the first box of a search, in rounds, and in others.
+pub(crate) const PRICE_ROUNDS: u32 = 6;
+
+pub(crate) const PRICE_ROUND_STEPS: u32 = 50;
+
+pub(crate) const PRICE_NODE_STEPS: u32 = 20;
+
+/// In how many boxes steps are taken before sets of open sites are searched for a plan, and how many times as many
+/// before the next search.
+pub(crate) const FIRST_SEARCH: u32 = 2000;
+
+pub(crate) const NEXT_SEARCH: u32 = 4;
+
+// Plans.
+
+/// Around which sites a plan is sought behind each round of steps.
+pub(crate) const HINTS: [Hint; 4] = [
+    Hint::Taken,
+    Hint::Shared(0.5),
+    Hint::Shared(0.3),
+    Hint::Shared(0.15),
+];
+
+/// How many sets of sites from which plans were sought are remembered.
+pub(crate) const REMEMBERED: usize = 16;
+
+// Splits.
+
+/// Where at most so many sites are free, they are split by their slacks alone.
+pub(crate) const FEW: usize = 8;
+
+/// How far a share has to be from 0 and 1 to count.
+pub(crate) const LEAST_DOUBT: f64 = 0.01;

@@ -1,0 +1,148 @@
+//! Plans around sets of sites that steps and duals propose.
+ghost use Rattle.std.specs.Prelude.{◌≡◌, ◌<◌, length};
+ghost use Rattle.strategy_port.specs.Scene.{IsScene};
+
+use crate::tried::Tried;
+use dual_steps::Progress;
+use instance_store::{Instance, NoMemory};
+use plan_meaning::Plan;
+use plan_search::{LocalSearch, improved_set, plan_around};
+use std::alloc::Global;
+use strategy_port::{Move, Scene};
+
+/// The sites from which a plan is sought.
+#[derive(Clone, Copy)]
+pub(crate) enum Hint {
+    /// Those without slack at the best duals of the leaf.
+    Tight,
+    /// Those that the steps take at their best duals.
+    Taken,
+    /// Those that more than such a share of the steps takes.
+    Shared(f64),
+}
+
+/// What seeks plans, and the arrays in which it works.
+#[derive(Drop)]
+pub(crate) struct Plans {
+    local: LocalSearch,
+    /// Open sites, by place.
+    pub(crate) flags: Vec<bool>,
+    tried: Tried,
+}
+
+impl Plans {
+    /// For this instance. It fails only where memory runs out.
+    pub(crate) fn of(alloc: Global, inst: &Instance) -> Result<Plans, NoMemory> {
+        Ok(Plans {
+            local: LocalSearch::of(alloc, inst)?,
+            flags: vec![in alloc; false; inst.sites()]?,
+            tried: Tried::none(),
+        })
+    }
+
+    /// Proposes a plan around the sites of the hint, unless one was sought from them before. It fails only where
+    /// memory runs out.
+    pub(crate) fn seek(
+        &mut self,
+        scene: &Scene<'_, '_>,
+        hint: Hint,
+        progress: &Progress,
+    ) -> Result<Move, NoMemory>
+        requires { IsScene scene.now }
+        ensures { length self.new.flags.items ≡ length self.old.flags.items }
+    {
+        flag(hint, scene.slacks, progress, &mut self.flags);
+        if !self.tried.is_new(&self.flags) {
+            return Ok(Move::Nothing);
+        }
+        let plan = improved_set(
+            scene.alloc,
+            scene.boxed,
+            scene.order,
+            &mut self.local,
+            &self.flags,
+            scene.cost,
+        )?;
+        Ok(proposed(plan))
+    }
+
+    /// Proposes a plan in a box without free sites, around a site that is named for each customer, by place. It
+    /// fails only where memory runs out.
+    pub(crate) fn seek_around(
+        &mut self,
+        scene: &Scene<'_, '_>,
+        named: &[usize],
+    ) -> Result<Move, NoMemory> {
+        let plan = plan_around(scene.alloc, scene.boxed, &mut self.local, named)?;
+        Ok(proposed(plan))
+    }
+
+    /// Flags the sites that the best plan opens.
+    pub(crate) fn flag_opened(&mut self, scene: &Scene<'_, '_>)
+        ensures { length self.new.flags.items ≡ length self.old.flags.items }
+    {
+        flag_opened(scene, &mut self.flags);
+    }
+}
+
+/// The plan as a move, where there is one.
+pub(crate) fn proposed(plan: Option<Plan>) -> Move {
+    match plan {
+        None => Move::Nothing,
+        Some(plan) => Move::Plan(plan),
+    }
+}
+
+// Flags the sites of the hint. The slacks are by place.
+fn flag(hint: Hint, slacks: &[i128], progress: &Progress, flags: &mut [bool])
+    ensures { length flags.new ≡ length flags.old }
+{
+    match hint {
+        Hint::Tight => flag_tight(slacks, flags),
+        Hint::Taken => flag_taken(progress.open(), flags),
+        Hint::Shared(least) => flag_shared(progress.shares(), least, flags),
+    }
+}
+
+fn flag_tight(slacks: &[i128], flags: &mut [bool])
+    ensures { length flags.new ≡ length flags.old }
+{
+    for i in 0..flags.len() {
+        flags[i] = i < slacks.len() && slacks[i] <= 0;
+    }
+}
+
+/// Flags the sites that are taken, by place.
+pub(crate) fn flag_taken(taken: &[bool], flags: &mut [bool])
+    ensures { length flags.new ≡ length flags.old }
+{
+    for i in 0..flags.len() {
+        flags[i] = i < taken.len() && taken[i];
+    }
+}
+
+fn flag_shared(shares: &[f64], least: f64, flags: &mut [bool])
+    ensures { length flags.new ≡ length flags.old }
+{
+    for i in 0..flags.len() {
+        flags[i] = i < shares.len() && shares[i] > least;
+    }
+}
+
+fn flag_opened(scene: &Scene<'_, '_>, flags: &mut [bool])
+    ensures { length flags.new ≡ length flags.old }
+{
+    let inst = scene.boxed.instance();
+    for i in 0..flags.len() {
+        flags[i] = i < inst.sites() && opens(scene, i);
+    }
+}
+
+fn opens(scene: &Scene<'_, '_>, site: usize) -> bool
+    requires { site < length scene.now.boxed.now.instance.sites }
+{
+    match scene.plan {
+        None => false,
+        Some(plan) => plan.opens(scene.boxed.instance().site_id(site)),
+    }
+}

@@ -1,0 +1,392 @@
+//! What is tried where no site has a capacity: steps in floats, whose duals are rounded, and plans around the sites
+//! that they take.
+ghost use Rattle.std.specs.Prelude.{◌≡◌, IfOk, IsTrue, OnOk, length};
+ghost use Rattle.dual_steps.specs.Sizes.{sizes_of, Suits as HasLanes};
+ghost use Rattle.lane_order.specs.Order.{IsOrderOf};
+ghost use Rattle.strategy_port.specs.Scene.{IsScene};
+ghost use Rattle.search_strategy.specs.Sizes.{Suits};
+
+use crate::constants::{
+    CLOSING_ROUNDS, CLOSING_STEPS, CLOSING_SWEEPS, DECIDED, HINTS, NEAR, NODE_FACTOR, NODE_MISSES,
+    NODE_STEPS, ROUND_FACTOR, ROUND_MISSES, ROUND_STEPS, ROUND_SWEEPS, ROUNDS,
+};
+use crate::course::Course;
+use crate::kept::FirstBox;
+use crate::plans::{Hint, Plans};
+use crate::splitting::split_place;
+use crate::widening::widen;
+use dual_steps::Steps;
+use dual_value::Duals;
+use instance_store::{Instance, NoMemory};
+use lane_order::LaneOrder;
+use location_terms::MAX_SCALE;
+use std::alloc::Global;
+use std::num::{nearest_u64_to_f64, nearest_usize_to_f64};
+use strategy_port::{Move, Scene, Wish};
+
+// What comes next in the box at work.
+#[derive(Clone, Copy)]
+enum Stage {
+    // To enter the box with the steps.
+    Start,
+    // To seek a plan at the sites without slack.
+    Seed,
+    // To take steps.
+    Steps,
+    // To seek a plan by the hint at this place, and by those behind it.
+    Plans(usize),
+    // To propose the duals of the steps, rounded to millionths.
+    Whole,
+    // To propose them rounded to parts of millionths, where only a few are left.
+    Fine,
+    // To see what came of it.
+    Review,
+}
+
+// What the steps are for.
+#[derive(Clone, Copy)]
+enum Work {
+    // Rounds of many steps in the first box of a search.
+    Root,
+    // A few steps in another box.
+    Node,
+    // Rounds to exactly the target in such a box, which may close without a split.
+    Closing,
+}
+
+/// The steps of a search, and where they stand in the box at work.
+#[derive(Drop)]
+pub(crate) struct Stepping<'a> {
+    steps: Steps<'a>,
+    plans: Plans,
+    stage: Stage,
+    work: Work,
+    course: Course,
+    rounds: u32,
+    // How much the best plan cost above the bound of the steps before the round.
+    before: f64,
+    // What is known of the first box, from a former search and from this one.
+    former: Option<FirstBox>,
+    first: FirstBox,
+}
+
+impl<'a> Stepping<'a> {
+    /// Before the first box, with what a former search kept. It fails only where memory runs out.
+    pub(crate) fn of(
+        alloc: Global,
+        inst: &'a Instance,
+        order: &LaneOrder,
+        former: Option<FirstBox>,
+    ) -> Result<Stepping<'a>, NoMemory>
+        requires { IsOrderOf order.now inst.now }
+    {
+        let steps = Steps::of(alloc, inst, order)?;
+        let plans = Plans::of(alloc, inst)?;
+        let first = FirstBox::unknown(alloc, inst)?;
+        Ok(Stepping {
+            steps,
+            plans,
+            stage: Stage::Start,
+            work: Work::Root,
+            course: Course::new(),
+            rounds: 0,
+            before: 0.0,
+            former,
+            first,
+        })
+    }
+
+    /// Another box comes.
+    pub(crate) fn enter(&mut self) {
+        self.stage = Stage::Start;
+    }
+
+    /// What to try next in it. It fails only where memory runs out.
+    pub(crate) fn next(&mut self, scene: &Scene<'_, '_>) -> Result<Move, NoMemory>
+        requires { IsScene scene.now }
+    {
+        if !suits(&self.steps, &self.plans, scene) {
+            return Ok(Move::Done);
+        }
+        if scene.is_first {
+            self.first.take_duals(scene.duals);
+        }
+        match self.stage {
+            Stage::Start => Ok(self.start(scene)),
+            Stage::Seed => self.seed(scene),
+            Stage::Steps => self.take_steps(scene),
+            Stage::Plans(k) => self.seek_plan(scene, k),
+            Stage::Whole => self.propose(scene),
+            Stage::Fine => self.propose_finely(scene),
+            Stage::Review => Ok(self.review(scene)),
+        }
+    }
+
+    /// On which site to split the box.
+    pub(crate) fn wish(&self, scene: &Scene<'_, '_>) -> Option<Wish> {
+        let place = split_place(scene, None, self.steps.progress().shares())?;
+        Some(Wish::Site(place))
+    }
+
+    /// What is known of the first box.
+    pub(crate) fn first_box(&self) -> &FirstBox {
+        &self.first
+    }
+
+    // Enters the box, and lets the steps start from the best duals of the leaf.
+    fn start(&mut self, scene: &Scene<'_, '_>) -> Move
+        requires { Suits scene.now self.old.steps self.old.plans.flags.items }
+    {
+        self.steps.enter(scene.boxed);
+        self.steps
+            .start_from(scene.order, scene.duals.values(), scene.duals.q());
+        self.stage = Stage::Steps;
+        self.rounds = 0;
+        if !scene.is_first {
+            self.work = Work::Node;
+            return Move::Nothing;
+        }
+        self.stage = Stage::Seed;
+        self.work = Work::Root;
+        self.course = Course::new();
+        self.steps.restart(ROUND_FACTOR);
+        self.go_on(scene)
+    }
+
+    // Lets the steps go on from where a former search was, if there was one, and proposes its duals.
+    fn go_on(&mut self, scene: &Scene<'_, '_>) -> Move
+        requires { Suits scene.now self.old.steps self.old.plans.flags.items }
+    {
+        let Some(former) = self.former.take() else {
+            return Move::Nothing;
+        };
+        let (duals, stepped, scale) = former.known(scene.duals);
+        self.steps.start_from(scene.order, &stepped, scale);
+        Move::Duals(duals)
+    }
+
+    // Seeks a plan at the sites without slack.
+    fn seed(&mut self, scene: &Scene<'_, '_>) -> Result<Move, NoMemory>
+        requires { Suits scene.now self.old.steps self.old.plans.flags.items }
+    {
+        self.stage = Stage::Steps;
+        self.plans.seek(scene, Hint::Tight, self.steps.progress())
+    }
+
+    // Takes the steps of a round, if another one is worth while.
+    fn take_steps(&mut self, scene: &Scene<'_, '_>) -> Result<Move, NoMemory>
+        requires { Suits scene.now self.old.steps self.old.plans.flags.items }
+    {
+        self.before = left(&self.steps, scene);
+        match self.work {
+            Work::Root => {
+                if self.rounds >= ROUNDS || self.course.is_over() {
+                    return Ok(Move::Done);
+                }
+                self.stage = Stage::Plans(0);
+                self.round(scene)?;
+            }
+            Work::Node => {
+                self.stage = Stage::Whole;
+                self.node_steps(scene);
+            }
+            Work::Closing => {
+                if self.rounds >= CLOSING_ROUNDS {
+                    return Ok(Move::Done);
+                }
+                self.stage = Stage::Whole;
+                close_in(&mut self.steps, scene)?;
+            }
+        }
+        self.rounds = self.rounds.saturating_add(1);
+        Ok(Move::Nothing)
+    }
+
+    // The steps of a round in the first box.
+    fn round(&mut self, scene: &Scene<'_, '_>) -> Result<(), NoMemory>
+        requires { Suits scene.now self.old.steps self.old.plans.flags.items }
+    {
+        let target = target(scene);
+        if !self.course.is_exact() {
+            self.steps
+                .volume(scene.order, target, ROUND_STEPS, ROUND_MISSES);
+            return Ok(());
+        }
+        self.refer_to_plan(scene);
+        self.steps.polyak(scene.order, target, ROUND_STEPS);
+        if self.course.is_near(left(&self.steps, scene), target) {
+            self.steps
+                .project(scene.alloc, scene.order, target, ROUND_SWEEPS)?;
+        }
+        Ok(())
+    }
+
+    // The steps in another box.
+    fn node_steps(&mut self, scene: &Scene<'_, '_>)
+        requires { Suits scene.now self.old.steps self.old.plans.flags.items }
+    {
+        let target = target(scene);
+        if !is_near(&self.steps, scene) {
+            self.steps.set_factor(NODE_FACTOR);
+            self.steps
+                .volume(scene.order, target, NODE_STEPS, NODE_MISSES);
+            return;
+        }
+        self.refer_to_plan(scene);
+        self.steps.polyak(scene.order, target, NODE_STEPS);
+        self.steps.snap(scene.order, target);
+    }
+
+    // Lets the steps refer to the best plan.
+    fn refer_to_plan(&mut self, scene: &Scene<'_, '_>)
+        requires { Suits scene.now self.old.steps self.old.plans.flags.items }
+        ensures { self.new.steps ≡ self.old.steps }
+    {
+        self.plans.flag_opened(scene);
+        self.steps.refer_to(scene.order, &self.plans.flags);
+    }
+
+    // Seeks a plan by the hint at this place.
+    fn seek_plan(&mut self, scene: &Scene<'_, '_>, k: usize) -> Result<Move, NoMemory>
+        requires { Suits scene.now self.old.steps self.old.plans.flags.items }
+    {
+        if k >= HINTS.len() {
+            self.stage = Stage::Whole;
+            return Ok(Move::Nothing);
+        }
+        self.stage = Stage::Plans(k + 1);
+        self.plans.seek(scene, HINTS[k], self.steps.progress())
+    }
+
+    // Proposes the best duals of the steps.
+    fn propose(&mut self, scene: &Scene<'_, '_>) -> Result<Move, NoMemory>
+        requires { Suits scene.now self.old.steps self.old.plans.flags.items }
+    {
+        self.stage = Stage::Fine;
+        if !self.is_at_root() {
+            return rounded(&mut self.steps, scene, 1);
+        }
+        snap_near(&mut self.steps, scene);
+        let found = rounded(&mut self.steps, scene, 1)?;
+        self.first.take_steps(self.steps.values(), 1);
+        Ok(found)
+    }
+
+    // Proposes them once more, where so few millionths are left that parts of them count.
+    fn propose_finely(&mut self, scene: &Scene<'_, '_>) -> Result<Move, NoMemory>
+        requires { Suits scene.now self.old.steps self.old.plans.flags.items }
+    {
+        self.stage = Stage::Review;
+        let customers = nearest_usize_to_f64(scene.boxed.instance().custs());
+        if left(&self.steps, scene) > 4.0 + customers / 8.0 {
+            return Ok(Move::Nothing);
+        }
+        rounded(&mut self.steps, scene, MAX_SCALE)
+    }
+
+    // Sees what a round has left, and whether to go on.
+    fn review(&mut self, scene: &Scene<'_, '_>) -> Move
+        requires { Suits scene.now self.old.steps self.old.plans.flags.items }
+    {
+        self.stage = Stage::Steps;
+        let left = left(&self.steps, scene);
+        match self.work {
+            Work::Root => self.course.advance(self.before, left, target(scene)),
+            Work::Node => {
+                if !may_close(&self.steps, scene) {
+                    return Move::Done;
+                }
+                self.work = Work::Closing;
+                self.rounds = 0;
+                self.refer_to_plan(scene);
+            }
+            Work::Closing => {
+                if left > 0.5 * self.before {
+                    return Move::Done;
+                }
+            }
+        }
+        Move::Nothing
+    }
+
+    fn is_at_root(&self) -> bool {
+        match self.work {
+            Work::Root => true,
+            Work::Node | Work::Closing => false,
+        }
+    }
+}
+
+// Whether steps and flags are for an instance as large as the leaf's.
+fn suits(steps: &Steps<'_>, plans: &Plans, scene: &Scene<'_, '_>) -> bool
+    requires { IsScene scene.now }
+    ensures { IsTrue result → Suits scene.now steps.now plans.now.flags.items }
+{
+    let inst = scene.boxed.instance();
+    steps.progress().shares().len() == inst.sites()
+        && steps.values().len() == inst.custs()
+        && plans.flags.len() == inst.sites()
+}
+
+// What the best plan costs, in millionths: the goal of all steps. 0 where no plan is known.
+fn target(scene: &Scene<'_, '_>) -> f64 {
+    nearest_u64_to_f64(scene.cost.unwrap_or(0))
+}
+
+// How much the best plan costs above the bound that the steps have come to, in millionths.
+fn left(steps: &Steps<'_>, scene: &Scene<'_, '_>) -> f64 {
+    target(scene) - steps.progress().bound()
+}
+
+// Whether so little is left that the bound may come up to the target.
+fn is_near(steps: &Steps<'_>, scene: &Scene<'_, '_>) -> bool {
+    left(steps, scene) < NEAR * target(scene)
+}
+
+// Whether it is worth while to go on before the box is split.
+fn may_close(steps: &Steps<'_>, scene: &Scene<'_, '_>) -> bool {
+    is_near(steps, scene) || is_decided(steps.progress().shares())
+}
+
+fn is_decided(shares: &[f64]) -> bool {
+    for i in 0..shares.len() {
+        if DECIDED < shares[i] && shares[i] < 1.0 - DECIDED {
+            return false;
+        }
+    }
+    true
+}
+
+// Puts the duals onto fractions of the costs' unit, where that may be all that is missing.
+fn snap_near(steps: &mut Steps<'_>, scene: &Scene<'_, '_>)
+    requires { HasLanes steps.old scene.now.order.now }
+    ensures { steps.new ≡ steps.old }
+{
+    if is_near(steps, scene) {
+        steps.snap(scene.order, target(scene));
+    }
+}
+
+// Steps to exactly the target, sweeps and snaps.
+fn close_in(steps: &mut Steps<'_>, scene: &Scene<'_, '_>) -> Result<(), NoMemory>
+    requires { HasLanes steps.old scene.now.order.now }
+    ensures { steps.new ≡ steps.old }
+{
+    let target = target(scene);
+    steps.polyak(scene.order, target, CLOSING_STEPS);
+    steps.project(scene.alloc, scene.order, target, CLOSING_SWEEPS)?;
+    steps.snap(scene.order, target);
+    Ok(())
+}
+
+// The best duals of the steps, rounded to parts of a millionth, `scale` of them.
+fn rounded(steps: &mut Steps<'_>, scene: &Scene<'_, '_>, scale: u32) -> Result<Move, NoMemory>
+    requires { HasLanes steps.old scene.now.order.now }
+{
+    steps.round(scene.order, scale);
+    let mut values = vec![in scene.alloc; 0; steps.values().len()]?;
+    widen(steps.values(), &mut values);
+    let prices = vec![in scene.alloc; 0; steps.progress().shares().len()]?;
+    let extra = i128::from(steps.count_price());
+    Ok(Move::Duals(Duals::from_lists(scale, extra, values, prices)))
+}
