@@ -13,7 +13,7 @@ use Rattle.location_terms.specs.Fit.{BoundCloses}
 use Rattle.location_terms.specs.Certificate.{cost_claimed, target_of}
 use Rattle.plan_meaning.proofs.Faults.{OrNot, same_or_not-number, feasible_or_fault}
 use Rattle.certificate_lines.specs.declared.fault.CertFault.{CertFault}
-use Rattle.certificate_lines.specs.Due.{Due, HeaderDue, Shown, NothingShown, PlanShown, SiteShown, LaneShown, LeafShown, Suits}
+use Rattle.certificate_lines.specs.Due.{Due, HeaderDue, Shown, NothingShown, PlanShown, SplitShown, LeafShown, Suits}
 use Rattle.certificate_lines.specs.Lines.{Said, read_line}
 use Rattle.location_terms.specs.Certificate.{cost_claimed, target_of}
 use Rattle.certificate_lines.proofs.Gives.{IsPlanned, gives-line}
@@ -67,8 +67,7 @@ judged I (PlanShown claim P) planned =
       ]
       | inr fault ↦ inr (PlanRefused fault.0, fault.1)
     ]
-judged I (SiteShown s) planned = inl tt
-judged I (LaneShown s c) planned = inl tt
+judged I (SplitShown split) planned = inl tt
 judged I (LeafShown claim path d) planned =
     elim (closes_or_not (bound_of I path d) d.q (target_of claim)) [
       | inl closed ↦ inl closed

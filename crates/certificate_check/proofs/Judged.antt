@@ -6,15 +6,15 @@ use Rattle.std.proofs.lemmas.List.{length-append, get_or_append_left, get_or-app
 use Rattle.std.proofs.lemmas.List.Elements.{All-nil, All-cons, All-head, All-tail, All-append, All-contains, All-weaker}
 use Rattle.location_terms.specs.declared.claim.Claim.{Claim}
 use Rattle.location_terms.specs.declared.claim.Claim.TheVariants.{Optimal, Infeasible, Bracket}
-use Rattle.location_terms.specs.declared.decision.Decision.TheVariants.{Opened, Closed, Yes, No}
 use Rattle.location_terms.specs.Instance.{Instance, site_ids}
 use Rattle.location_terms.specs.Plan.{Plan, IsFeasible, cost_of}
 use Rattle.location_terms.specs.Box.{Path}
+use Rattle.location_terms.specs.Split.{first_step, second_step}
 use Rattle.location_terms.specs.Bound.{Duals, bound_of}
 use Rattle.location_terms.specs.Fit.{BoundCloses}
-use Rattle.location_terms.specs.Tree.{Node, Leaf, OnSite, OnLane, Tree, AllClose, leaves_below}
+use Rattle.location_terms.specs.Tree.{Node, Leaf, Fork, Tree, AllClose, leaves_below}
 use Rattle.location_terms.specs.Certificate.{Certificate, cost_claimed, target_of, Costs, Shows, IsAccepted}
-use Rattle.certificate_lines.specs.Due.{Shown, PlanShown, SiteShown, LaneShown, LeafShown}
+use Rattle.certificate_lines.specs.Due.{Shown, PlanShown, SplitShown, LeafShown}
 use Rattle.certificate_lines.specs.Follow.{HasSmallCosts, IsSpellable, HasPlanWhere, HasText, plan_shown, nodes_shown, shown_by}
 use Rattle.certificate_check.specs.Judgement.{Stands}
 
@@ -40,14 +40,10 @@ stands_below I claim path (Leaf d) = (
   λ all. All-cons (IsClosed I claim) (path, d) [] (All-head (Stands I) (LeafShown claim path d) [] all) (All-nil (IsClosed I claim)),
   λ all. All-cons (Stands I) (LeafShown claim path d) [] (All-head (IsClosed I claim) (path, d) [] all) (All-nil (Stands I)),
 )
-stands_below I claim path (OnSite s a b) =
-    let below_a = path ++ Closed s ∷ [] in
-    let below_b = path ++ Opened s ∷ [] in
-    split_stands I claim (SiteShown s) (nodes_shown claim below_a a) (nodes_shown claim below_b b) (leaves_below below_a a) (leaves_below below_b b) tt (stands_below I claim below_a a) (stands_below I claim below_b b)
-stands_below I claim path (OnLane s c a b) =
-    let below_a = path ++ No s c ∷ [] in
-    let below_b = path ++ Yes s c ∷ [] in
-    split_stands I claim (LaneShown s c) (nodes_shown claim below_a a) (nodes_shown claim below_b b) (leaves_below below_a a) (leaves_below below_b b) tt (stands_below I claim below_a a) (stands_below I claim below_b b)
+stands_below I claim path (Fork split a b) =
+    let below_a = path ++ first_step split ∷ [] in
+    let below_b = path ++ second_step split ∷ [] in
+    split_stands I claim (SplitShown split) (nodes_shown claim below_a a) (nodes_shown claim below_b b) (leaves_below below_a a) (leaves_below below_b b) tt (stands_below I claim below_a a) (stands_below I claim below_b b)
 
 -- there is a plan of this cost, or none where there is no cost
 abbrev HasCost : Instance → Option ℕ → Option Plan → Type 0

@@ -23,7 +23,7 @@ pub(crate) fn against(inst: &Instance, bounds: &mut BoxBounds<'_>, shown: &Shown
     match shown {
         Shown::Plan(claim, plan) => against_plan(inst, *claim, plan),
         Shown::Leaf(claim, path, duals) => against_leaf(bounds, *claim, path, duals),
-        Shown::Nothing | Shown::Site(_) | Shown::Lane(_, _) => None,
+        Shown::Nothing | Shown::Split(_) => None,
     }
 }
 

@@ -1,7 +1,12 @@
--- Lines that are read one behind another: to the first, from the first, and lists of lines joined.
+-- Lines that are read one behind another: to the first, from the first, and lists of lines joined; and where a walk turns below a split.
 use Rattle.std.proofs.Common.{◌≡◌, ℕ, refl, sym, ap, ◌∙◌, List, [], ◌∷◌, ◌++◌, append_assoc, Some, None}
 use Rattle.std.specs.Prelude.{Option, Ok, Err}
+use Rattle.location_terms.specs.declared.split.Split.{Split}
 use Rattle.location_terms.specs.Instance.{Instance}
+use Rattle.location_terms.specs.Box.{Path}
+use Rattle.location_terms.specs.Split.{first_step, second_step}
+use Rattle.branch_tree.specs.Walk.{turned}
+use Rattle.branch_tree.proofs.Ahead.{turned_first, turned_second, then_second, then_none}
 use Rattle.certificate_lines.specs.Due.{Due, Shown}
 use Rattle.certificate_lines.specs.Lines.{Said, read_line}
 use Rattle.certificate_lines.specs.Follow.{shown_list, shown_first, follow_said, follow}
@@ -54,3 +59,10 @@ follow-append I due mid end (x ∷ xs) ys before after e f =
     let first = first_read I due x xs mid before e in
     follow-line I due first.next end x (xs ++ ys) first.shown (first.rest ++ after) first.reads (follow-append I first.next mid end xs ys first.rest after first.follows f)
     ∙ ap (λ shown. Some (end, shown)) (sym (append_assoc (shown_list first.shown) first.rest after) ∙ ap (λ shown. shown ++ after) (sym first.whole))
+
+-- behind a split's first child its second one is due, and behind that what is due behind the split
+pub turned_below_first : (split : Split) (path : Path) → turned (path ++ first_step split ∷ []) ≡ Some (path ++ second_step split ∷ [])
+turned_below_first split path = turned_first (first_step split) (second_step split) path (then_second split)
+
+pub turned_below_second : (split : Split) (path : Path) → turned (path ++ second_step split ∷ []) ≡ turned path
+turned_below_second split path = turned_second (second_step split) path (then_none split)

@@ -19,7 +19,7 @@ use Rattle.certificate_lines.specs.declared.line.Shown.{Shown as CodeShown}
 use Rattle.certificate_lines.specs.declared.line.LineFault.{LineFault}
 use Rattle.certificate_lines.specs.Model.{due_of, shown_of, IsSound, Answers}
 use Rattle.certificate_lines.proofs.Prices.{ArePrices}
-use Rattle.certificate_lines.proofs.LineSpelling.{Says, NodeLine, on_site, on_lane, on_leaf, IsSpelled, line-spelled}
+use Rattle.certificate_lines.proofs.LineSpelling.{Says, NodeLine, on_split, on_leaf, IsSpelled, line-spelled}
 
 -- the lists of a plan that is shown rise
 abbrev pub IsPlanned : Shown → Type 0
@@ -54,8 +54,7 @@ leaf_fits I q nu v u suits prices = record {
 }
 
 node-good : (I : Instance) (claim : Claim) (path : Path) (line : List ℕ) (read : Due × Shown) → NodeLine I claim path line read → IsGood I read
-node-good I claim path line read (on_site s known text says) = says-good I _ _ read (tt, known, λ valid. tt) says
-node-good I claim path line read (on_lane s c known customer text says) = says-good I _ _ read (tt, (known, customer), λ valid. tt) says
+node-good I claim path line read (on_split split known text says) = says-good I _ _ read (tt, known, λ valid. tt) says
 node-good I claim path line read (on_leaf q nu scale price text says) = says-good I _ _ read ((scale, price), tt, λ valid. tt) says
 
 spelled-good : (I : Instance) (due : Due) (line : List ℕ) (read : Due × Shown) → Suits I due → IsSpelled I due line read → IsGood I read

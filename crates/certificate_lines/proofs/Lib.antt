@@ -13,3 +13,5 @@ pub mod Values
 pub mod Places
 pub mod Served
 pub mod PricesSet
+pub mod Lengths
+pub mod Once

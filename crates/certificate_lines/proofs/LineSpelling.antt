@@ -1,5 +1,5 @@
 -- How a certificate spells the line that is due. A line is read without a fault just where it is spelled so.
-use Rattle.std.proofs.Common.{◌≡◌, ℕ, ◌≤◌, ◌==◌, ◌&&◌, not, Bool, true, List, [], ◌∷◌, ◌++◌, length, map, refl, sym, ap, ◌∙◌, inl, inr, arith, ◌<◌, false, get_or, Option, Some, None}
+use Rattle.std.proofs.Common.{◌≡◌, ℕ, ◌≤◌, ◌==◌, ◌&&◌, not, Bool, true, List, [], ◌∷◌, length, map, refl, sym, ap, ◌∙◌, inl, inr, arith, ◌<◌, false, get_or, Option, Some, None}
 use Rattle.std.specs.Prelude.{ℤ, pos, All, Contains, Ok, codes, unsigned_abs, is_none, if◌then◌else◌}
 use Rattle.std.specs.List.{list_all}
 use Rattle.std.specs.List.Sorted.{IsStrictlyIncreasing}
@@ -10,10 +10,12 @@ use Rattle.std.proofs.lemmas.Simd.{map-map}
 use Rattle.std.proofs.lemmas.List.Elements.{All-from_get_or, Contains-get_or}
 use Rattle.std.proofs.lemmas.List.Folds.{list_any_none}
 use Rattle.location_terms.specs.declared.claim.Claim.{Claim}
-use Rattle.location_terms.specs.declared.decision.Decision.TheVariants.{Closed, No}
+use Rattle.location_terms.specs.declared.split.Split.{Split}
+use Rattle.location_terms.specs.declared.split.Split.TheVariants.{Site, Lane}
+use Rattle.location_terms.specs.Split.{IsSplitAmong}
 use Rattle.location_terms.specs.declared.status.SiteStatus.{SiteStatus}
 use Rattle.location_terms.specs.declared.limits.TheConstants.{MAX_SCALE, MAX_VALUE, MAX_MULTIPLIER, MAX_SITES, MAX_CUSTOMERS}
-use Rattle.location_terms.specs.Instance.{Instance, IsValid, site_ids, customer_ids, Site, site_at}
+use Rattle.location_terms.specs.Instance.{Instance, IsValid, site_ids, customer_ids, Site as SiteRow, site_at}
 use Rattle.location_terms.specs.Box.{Path, must_open, must_close}
 use Rattle.location_terms.specs.declared.status.SiteStatus.TheVariants.{Free}
 use Rattle.location_terms.specs.Bound.{Duals}
@@ -23,9 +25,9 @@ use Rattle.number_words.specs.Line.{spaced}
 use Rattle.number_words.specs.Number.{number_text, is_rising}
 use Rattle.certificate_lines.specs.declared.kind.CertKind.TheVariants.{WrongStatus}
 use Rattle.certificate_lines.specs.Shape.{row, any_count, just, even_count, text_of_shape, Word}
-use Rattle.certificate_lines.specs.Text.{counts_line, ids_where, header_words, sizes_line, claim_line, priced, is_all_free}
-use Rattle.certificate_lines.specs.Due.{Due, HeaderDue, SizesDue, MustOpenDue, MustClosedDue, ClaimDue, OpenDue, ServeDue, NodeDue, ValuesDue, PricesDue, EndDue, NothingDue, Shown, NothingShown, PlanShown, SiteShown, LaneShown, LeafShown, behind_claim, behind_leaf}
-use Rattle.certificate_lines.specs.Lines.{Said, then_due, unless, read_shape, is_up_to, is_of_size, is_id, is_same, is_among, same_ids, ids, header_shape, behind_sizes, sizes_shape, sizes_said, read_status, status_said, open_said, plan_from, serve_said, site_shape, lane_shape, leaf_shape, site_said, lane_said, leaf_said, values_said, Price, pairs_of, lacks_cap, is_in_range, price_in, prices_said, read_line, is_size, read_header, read_claim}
+use Rattle.certificate_lines.specs.Text.{counts_line, ids_where, header_words, sizes_line, claim_line, split_line, priced, is_all_free}
+use Rattle.certificate_lines.specs.Due.{Due, HeaderDue, SizesDue, MustOpenDue, MustClosedDue, ClaimDue, OpenDue, ServeDue, NodeDue, ValuesDue, PricesDue, EndDue, NothingDue, Shown, NothingShown, PlanShown, LeafShown, behind_claim, behind_leaf}
+use Rattle.certificate_lines.specs.Lines.{Said, then_due, unless, read_shape, is_up_to, is_of_size, is_id, is_same, is_among, same_ids, ids, header_shape, behind_sizes, sizes_shape, sizes_said, read_status, status_said, open_said, plan_from, serve_said, site_shape, lane_shape, leaf_shape, split_said, site_said, lane_said, leaf_said, values_said, Price, pairs_of, lacks_cap, is_in_range, price_in, prices_said, read_line, is_size, read_header, read_claim}
 use Rattle.certificate_lines.specs.Follow.{HasSmallCosts}
 use Rattle.certificate_lines.proofs.Shapes.{passes, has_words, shape_read, shape_text, text_or, unless-holds, other_read}
 use Rattle.certificate_lines.proofs.Ids.{rises, is_same-is, among-is, all_among-are, same_ids-are, sites_are, ids-pos, among-known, id-known, all_known, same_ids-pos, sites_pass, where_ids}
@@ -38,8 +40,7 @@ Says due shown read = then_due due shown ≡ Ok read
 
 -- the first line of a node
 pub data NodeLine (I : Instance) (claim : Claim) (path : Path) (line : List ℕ) (read : Due × Shown) : Type 0 where
-  on_site : (s : ℕ) → Contains (site_ids I) s → line ≡ counts_line (codes "site") (s ∷ []) → Says (NodeDue claim (path ++ Closed s ∷ [])) (SiteShown s) read → NodeLine I claim path line read
-  on_lane : (s c : ℕ) → Contains (site_ids I) s → Contains (customer_ids I) c → line ≡ counts_line (codes "lane") (s ∷ c ∷ []) → Says (NodeDue claim (path ++ No s c ∷ [])) (LaneShown s c) read → NodeLine I claim path line read
+  on_split : (split : Split) → IsSplitAmong (site_ids I) (customer_ids I) split → line ≡ split_line split → split_said claim path split ≡ Ok read → NodeLine I claim path line read
   on_leaf : (q : ℕ) (nu : ℤ) → q ≤ MAX_SCALE → unsigned_abs nu ≤ MAX_VALUE → line ≡ spaced (codes "leaf" ∷ number_text (pos q) ∷ number_text nu ∷ []) → Says (ValuesDue claim path q nu) NothingShown read → NodeLine I claim path line read
 
 -- a line that is due, and what it gives; only of a valid instance are the prices known to stand in the order of the sites
@@ -119,7 +120,7 @@ site_is I claim path line (s ∷ []) read text e =
     let small = passes _ _ _ _ e in
     let known = passes _ _ _ _ small.1 in
     let is = among-is (site_ids I) s known.0 in
-    on_site (unsigned_abs s) is.1 (text ∙ ap (λ z. text_of_shape site_shape (z ∷ [])) is.0) known.1
+    on_split (Site (unsigned_abs s)) is.1 (text ∙ ap (λ z. text_of_shape site_shape (z ∷ [])) is.0) known.1
 site_is I claim path line (s ∷ z ∷ zs) read text e = absurd (cc)
 
 lane_is : (I : Instance) (claim : Claim) (path : Path) (line : List ℕ) (zs : List ℤ) (read : Due × Shown) → line ≡ text_of_shape lane_shape zs → lane_said I claim path zs ≡ Ok read → NodeLine I claim path line read
@@ -131,7 +132,7 @@ lane_is I claim path line (s ∷ c ∷ []) read text e =
     let both = and_parts (is_among (site_ids I) s) (is_among (customer_ids I) c) known.0 in
     let site = among-is (site_ids I) s both.0 in
     let customer = among-is (customer_ids I) c both.1 in
-    on_lane (unsigned_abs s) (unsigned_abs c) site.1 customer.1 (text ∙ ap (λ z. text_of_shape lane_shape (z ∷ c ∷ [])) site.0 ∙ ap (λ z. text_of_shape lane_shape (pos (unsigned_abs s) ∷ z ∷ [])) customer.0) known.1
+    on_split (Lane (unsigned_abs s) (unsigned_abs c)) (site.1, customer.1) (text ∙ ap (λ z. text_of_shape lane_shape (z ∷ c ∷ [])) site.0 ∙ ap (λ z. text_of_shape lane_shape (pos (unsigned_abs s) ∷ z ∷ [])) customer.0) known.1
 lane_is I claim path line (s ∷ c ∷ z ∷ zs) read text e = absurd (cc)
 
 leaf_is : (I : Instance) (claim : Claim) (path : Path) (line : List ℕ) (zs : List ℤ) (read : Due × Shown) → line ≡ text_of_shape leaf_shape zs → leaf_said claim path zs ≡ Ok read → NodeLine I claim path line read
@@ -228,18 +229,16 @@ serve-read I claim sites servers valid long known =
     ∙ ap (λ ns. then_due (NodeDue claim []) (PlanShown claim (plan_from I sites ns))) (ids-pos servers)
 
 -- the first line of a node: its text is of one of the three shapes
-site-read : (I : Instance) (claim : Claim) (path : Path) (s : ℕ) → IsValid I → Contains (site_ids I) s → read_line I (NodeDue claim path) (counts_line (codes "site") (s ∷ [])) ≡ then_due (NodeDue claim (path ++ Closed s ∷ [])) (SiteShown s)
-site-read I claim path s valid known =
+split-read : (I : Instance) (claim : Claim) (path : Path) (split : Split) → IsValid I → IsSplitAmong (site_ids I) (customer_ids I) split → read_line I (NodeDue claim path) (split_line split) ≡ split_said claim path split
+split-read I claim path (Site s) valid known =
     shape_read site_shape (pos s ∷ []) (site_said I claim path) _ refl refl
     ∙ unless-holds _ _ _ (id-known (site_ids I) I.next_site s valid.sites_named known)
     ∙ unless-holds _ _ _ (among-known (site_ids I) s known)
-
-lane-read : (I : Instance) (claim : Claim) (path : Path) (s c : ℕ) → IsValid I → Contains (site_ids I) s → Contains (customer_ids I) c → read_line I (NodeDue claim path) (counts_line (codes "lane") (s ∷ c ∷ [])) ≡ then_due (NodeDue claim (path ++ No s c ∷ [])) (LaneShown s c)
-lane-read I claim path s c valid known customer =
+split-read I claim path (Lane s c) valid both =
     other_read site_shape lane_shape (pos s ∷ pos c ∷ []) (site_said I claim path) _ refl refl
     ∙ shape_read lane_shape (pos s ∷ pos c ∷ []) (lane_said I claim path) _ refl refl
-    ∙ unless-holds _ _ _ (and_from _ _ (id-known (site_ids I) I.next_site s valid.sites_named known) (id-known (customer_ids I) I.next_customer c valid.customers_named customer))
-    ∙ unless-holds _ _ _ (and_from _ _ (among-known (site_ids I) s known) (among-known (customer_ids I) c customer))
+    ∙ unless-holds _ _ _ (and_from _ _ (id-known (site_ids I) I.next_site s valid.sites_named both.0) (id-known (customer_ids I) I.next_customer c valid.customers_named both.1))
+    ∙ unless-holds _ _ _ (and_from _ _ (among-known (site_ids I) s both.0) (among-known (customer_ids I) c both.1))
 
 leaf-read : (I : Instance) (claim : Claim) (path : Path) (q : ℕ) (nu : ℤ) → q ≤ MAX_SCALE → unsigned_abs nu ≤ MAX_VALUE → read_line I (NodeDue claim path) (text_of_shape leaf_shape (pos q ∷ nu ∷ [])) ≡ then_due (ValuesDue claim path q nu) NothingShown
 leaf-read I claim path q nu scale price =
@@ -249,8 +248,7 @@ leaf-read I claim path q nu scale price =
     ∙ unless-holds _ _ _ (and_from _ _ (le-leb q MAX_SCALE scale) (le-leb (unsigned_abs nu) MAX_VALUE price))
 
 node-read : (I : Instance) (claim : Claim) (path : Path) (line : List ℕ) (read : Due × Shown) → IsValid I → NodeLine I claim path line read → read_line I (NodeDue claim path) line ≡ Ok read
-node-read I claim path line read valid (on_site s known text is) = ap (read_line I (NodeDue claim path)) text ∙ site-read I claim path s valid known ∙ is
-node-read I claim path line read valid (on_lane s c known customer text is) = ap (read_line I (NodeDue claim path)) text ∙ lane-read I claim path s c valid known customer ∙ is
+node-read I claim path line read valid (on_split split known text is) = ap (read_line I (NodeDue claim path)) text ∙ split-read I claim path split valid known ∙ is
 node-read I claim path line read valid (on_leaf q nu scale price text is) = ap (read_line I (NodeDue claim path)) text ∙ leaf-read I claim path q nu scale price ∙ is
 
 -- a site with a price has a capacity
@@ -260,9 +258,9 @@ none-cap (Some cap) none = absurd (cc)
 
 has_cap : (I : Instance) (u : List ℕ) (i : ℕ) → IsValid I → ArePrices I u → i < length (site_ids I) → 0 < get_or u i 0 → lacks_cap I (pos (get_or (site_ids I) i 0)) ≡ false
 has_cap I u i valid prices among some =
-    let here : Site = record { id = 0; fixed = 0; cap = None; status = Free } in
+    let here : SiteRow = record { id = 0; fixed = 0; cap = None; status = Free } in
     let k = get_or (site_ids I) i 0 in
-    let test : Site → Bool = λ s. is_same (pos k) s.id && is_none s.cap in
+    let test : SiteRow → Bool = λ s. is_same (pos k) s.id && is_none s.cap in
     let within : i < length I.sites = omega (arith, among, length-site_ids I) in
     let its_id : k ≡ (get_or I.sites i here).id = slice_index-site_ids I i within in
     list_any_none test I.sites

@@ -6,26 +6,26 @@ use Rattle.std.proofs.lemmas.List.{append-nil, length-append, length-map, get_or
 use Rattle.std.proofs.lemmas.List.Elements.{All-map}
 use Rattle.location_terms.specs.declared.claim.Claim.{Claim}
 use Rattle.location_terms.specs.declared.claim.Claim.TheVariants.{Optimal, Infeasible, Bracket}
-use Rattle.location_terms.specs.declared.decision.Decision.{Decision}
-use Rattle.location_terms.specs.declared.decision.Decision.TheVariants.{Opened, Closed, Yes, No}
+use Rattle.location_terms.specs.declared.split.Split.{Split}
 use Rattle.location_terms.specs.Instance.{Instance, IsValid, site_ids, customer_ids}
 use Rattle.location_terms.specs.Plan.{Plan}
 use Rattle.location_terms.specs.Box.{Path, must_open, must_close}
+use Rattle.location_terms.specs.Split.{first_step, second_step}
 use Rattle.location_terms.specs.Bound.{Duals}
 use Rattle.location_terms.specs.Fit.{DualsFit}
-use Rattle.location_terms.specs.Tree.{Node, Leaf, OnSite, OnLane, SplitsAmong, leaves_below}
+use Rattle.location_terms.specs.Tree.{Node, Leaf, Fork, SplitsAmong, leaves_below}
 use Rattle.location_terms.specs.Certificate.{Certificate, cost_claimed}
 use Rattle.location_terms.proofs.Places.{length-customer_ids}
-use Rattle.branch_tree.specs.Walk.{second_child, turned}
-use Rattle.branch_tree.proofs.Ahead.{turned_first, turned_second, turned_root}
+use Rattle.branch_tree.specs.Walk.{turned}
+use Rattle.branch_tree.proofs.Ahead.{turned_root}
 use Rattle.number_words.specs.Line.{spaced}
 use Rattle.number_words.specs.Number.{number_text}
-use Rattle.certificate_lines.specs.Text.{is_all_free, ids_where, counts_line, header_words, sizes_line, status_lines, claim_line, plan_lines, priced, leaf_lines, node_lines, certificate_lines}
-use Rattle.certificate_lines.specs.Due.{Due, HeaderDue, SizesDue, MustOpenDue, MustClosedDue, ClaimDue, OpenDue, ServeDue, NodeDue, ValuesDue, PricesDue, EndDue, NothingDue, Shown, NothingShown, PlanShown, SiteShown, LaneShown, LeafShown, behind_claim, behind_leaf, node_or_end}
+use Rattle.certificate_lines.specs.Text.{is_all_free, ids_where, counts_line, header_words, sizes_line, status_lines, claim_line, split_line, plan_lines, priced, leaf_lines, node_lines, certificate_lines}
+use Rattle.certificate_lines.specs.Due.{Due, HeaderDue, SizesDue, MustOpenDue, MustClosedDue, ClaimDue, OpenDue, ServeDue, NodeDue, ValuesDue, PricesDue, EndDue, NothingDue, Shown, NothingShown, PlanShown, SplitShown, LeafShown, behind_claim, behind_leaf, node_or_end}
 use Rattle.certificate_lines.specs.Lines.{behind_sizes, plan_from}
 use Rattle.certificate_lines.specs.Follow.{shown_list, follow, IsSpellable, HasPlanWhere, HasText, plan_shown, nodes_shown, shown_by}
-use Rattle.certificate_lines.proofs.Following.{follow-line, follow-append}
-use Rattle.certificate_lines.proofs.LineSpelling.{on_site, on_lane, on_leaf, IsSpelled, line-read}
+use Rattle.certificate_lines.proofs.Following.{turned_below_first, turned_below_second, follow-line, follow-append}
+use Rattle.certificate_lines.proofs.LineSpelling.{on_split, on_leaf, IsSpelled, line-read}
 
 -- a line that is spelled, in front of lines that are read
 spelled_first : (I : Instance) (due next end : Due) (line : List ℕ) (lines : List (List ℕ)) (shown : Shown) (all : List Shown) → IsValid I → IsSpelled I due line (next, shown) → follow I next lines ≡ Some (end, all) → follow I due (line ∷ lines) ≡ Some (end, shown_list shown ++ all)
@@ -91,13 +91,14 @@ abbrev IsBack : Instance → Claim → Path → Node → Type 0
 IsBack I claim path t = follow I (NodeDue claim path) (node_lines (site_ids I) t) ≡ Some (node_or_end claim (turned path), nodes_shown claim path t)
 
 -- the two children of a split
-children : (I : Instance) (claim : Claim) (path : Path) (first second : Decision) (a b : Node) → second_child first ≡ Some second → second_child second ≡ None → IsBack I claim (path ++ first ∷ []) a → IsBack I claim (path ++ second ∷ []) b
-    → follow I (NodeDue claim (path ++ first ∷ [])) (node_lines (site_ids I) a ++ node_lines (site_ids I) b) ≡ Some (node_or_end claim (turned path), nodes_shown claim (path ++ first ∷ []) a ++ nodes_shown claim (path ++ second ∷ []) b)
-children I claim path first second a b goes ends on_a on_b =
-    let told_b = nodes_shown claim (path ++ second ∷ []) b in
-    follow-append I (NodeDue claim (path ++ first ∷ [])) (NodeDue claim (path ++ second ∷ [])) (node_or_end claim (turned path)) (node_lines (site_ids I) a) (node_lines (site_ids I) b) (nodes_shown claim (path ++ first ∷ []) a) told_b
-    (on_a ∙ ap (λ o. Some (node_or_end claim o, nodes_shown claim (path ++ first ∷ []) a)) (turned_first first second path goes))
-    (on_b ∙ ap (λ o. Some (node_or_end claim o, told_b)) (turned_second second path ends))
+children : (I : Instance) (claim : Claim) (path : Path) (split : Split) (a b : Node) → IsBack I claim (path ++ first_step split ∷ []) a → IsBack I claim (path ++ second_step split ∷ []) b
+    → follow I (NodeDue claim (path ++ first_step split ∷ [])) (node_lines (site_ids I) a ++ node_lines (site_ids I) b) ≡ Some (node_or_end claim (turned path), nodes_shown claim (path ++ first_step split ∷ []) a ++ nodes_shown claim (path ++ second_step split ∷ []) b)
+children I claim path split a b on_a on_b =
+    let below_a = path ++ first_step split ∷ [] in
+    let below_b = path ++ second_step split ∷ [] in
+    follow-append I (NodeDue claim below_a) (NodeDue claim below_b) (node_or_end claim (turned path)) (node_lines (site_ids I) a) (node_lines (site_ids I) b) (nodes_shown claim below_a a) (nodes_shown claim below_b b)
+    (on_a ∙ ap (λ o. Some (node_or_end claim o, nodes_shown claim below_a a)) (turned_below_first split path))
+    (on_b ∙ ap (λ o. Some (node_or_end claim o, nodes_shown claim below_b b)) (turned_below_second split path))
 
 -- leaves that fit fit in both parts of their list
 fits_parts : (I : Instance) (xs ys : List (Path × Duals)) → All (λ l. DualsFit I l.1) (xs ++ ys) → All (λ l. DualsFit I l.1) xs × All (λ l. DualsFit I l.1) ys
@@ -105,14 +106,12 @@ fits_parts I xs ys fit = (λ k d within. subst (λ l. DualsFit I l.1) (get_or_ap
 
 nodes_back : (I : Instance) (claim : Claim) (path : Path) (t : Node) → IsValid I → SplitsAmong (site_ids I) (customer_ids I) t → All (λ l. DualsFit I l.1) (leaves_below path t) → IsBack I claim path t
 nodes_back I claim path (Leaf d) valid splits fit = leaf_back I claim path d valid (fit 0 (path, d) (omega arith))
-nodes_back I claim path (OnSite s a b) valid splits fit =
-    let parts = fits_parts I (leaves_below (path ++ Closed s ∷ []) a) (leaves_below (path ++ Opened s ∷ []) b) fit in
-    spelled_first I (NodeDue claim path) (NodeDue claim (path ++ Closed s ∷ [])) (node_or_end claim (turned path)) (counts_line (codes "site") (s ∷ [])) (node_lines (site_ids I) a ++ node_lines (site_ids I) b) (SiteShown s) (nodes_shown claim (path ++ Closed s ∷ []) a ++ nodes_shown claim (path ++ Opened s ∷ []) b) valid (on_site s splits.0 refl refl)
-    (children I claim path (Closed s) (Opened s) a b refl refl (nodes_back I claim (path ++ Closed s ∷ []) a valid splits.1 parts.0) (nodes_back I claim (path ++ Opened s ∷ []) b valid splits.2 parts.1))
-nodes_back I claim path (OnLane s c a b) valid splits fit =
-    let parts = fits_parts I (leaves_below (path ++ No s c ∷ []) a) (leaves_below (path ++ Yes s c ∷ []) b) fit in
-    spelled_first I (NodeDue claim path) (NodeDue claim (path ++ No s c ∷ [])) (node_or_end claim (turned path)) (counts_line (codes "lane") (s ∷ c ∷ [])) (node_lines (site_ids I) a ++ node_lines (site_ids I) b) (LaneShown s c) (nodes_shown claim (path ++ No s c ∷ []) a ++ nodes_shown claim (path ++ Yes s c ∷ []) b) valid (on_lane s c splits.0 splits.1 refl refl)
-    (children I claim path (No s c) (Yes s c) a b refl refl (nodes_back I claim (path ++ No s c ∷ []) a valid splits.2 parts.0) (nodes_back I claim (path ++ Yes s c ∷ []) b valid splits.3 parts.1))
+nodes_back I claim path (Fork split a b) valid splits fit =
+    let below_a = path ++ first_step split ∷ [] in
+    let below_b = path ++ second_step split ∷ [] in
+    let parts = fits_parts I (leaves_below below_a a) (leaves_below below_b b) fit in
+    spelled_first I (NodeDue claim path) (NodeDue claim below_a) (node_or_end claim (turned path)) (split_line split) (node_lines (site_ids I) a ++ node_lines (site_ids I) b) (SplitShown split) (nodes_shown claim below_a a ++ nodes_shown claim below_b b) valid (on_split split splits.0 refl refl)
+    (children I claim path split a b (nodes_back I claim below_a a valid splits.1 parts.0) (nodes_back I claim below_b b valid splits.2 parts.1))
 
 -- the tree, and the last line behind it
 tree_back : (I : Instance) (cert : Certificate) → IsValid I → HasText I cert → follow I (NodeDue cert.claim []) (node_lines cert.tree.sites cert.tree.root ++ codes "end" ∷ []) ≡ Some (NothingDue cert.claim, nodes_shown cert.claim [] cert.tree.root)

@@ -6,27 +6,27 @@ use Rattle.std.proofs.lemmas.List.Elements.{All-nil, All-cons, All-head, All-tai
 use Rattle.std.proofs.lemmas.Slice.Zip.{firsts-zip, seconds-zip}
 use Rattle.location_terms.specs.declared.claim.Claim.{Claim}
 use Rattle.location_terms.specs.declared.claim.Claim.TheVariants.{Optimal, Infeasible, Bracket}
-use Rattle.location_terms.specs.declared.decision.Decision.{Decision}
-use Rattle.location_terms.specs.declared.decision.Decision.TheVariants.{Opened, Closed, Yes, No}
+use Rattle.location_terms.specs.declared.split.Split.{Split}
 use Rattle.location_terms.specs.declared.limits.TheConstants.{MAX_SCALE, MAX_VALUE}
 use Rattle.location_terms.specs.Instance.{Instance, IsValid, site_ids, customer_ids}
 use Rattle.location_terms.specs.Plan.{Plan}
 use Rattle.location_terms.specs.Box.{Path, must_open, must_close}
+use Rattle.location_terms.specs.Split.{first_step, second_step}
 use Rattle.location_terms.specs.Bound.{Duals}
 use Rattle.location_terms.specs.Fit.{DualsFit}
-use Rattle.location_terms.specs.Tree.{Node, Leaf, OnSite, OnLane, SplitsAmong, HasLists, leaves_below}
+use Rattle.location_terms.specs.Tree.{Node, Leaf, Fork, SplitsAmong, HasLists, leaves_below}
 use Rattle.location_terms.specs.Certificate.{Certificate, cost_claimed}
 use Rattle.location_terms.proofs.Places.{length-site_ids, length-customer_ids}
-use Rattle.branch_tree.specs.Walk.{second_child, turned}
-use Rattle.branch_tree.proofs.Ahead.{turned_first, turned_second, turned_root}
+use Rattle.branch_tree.specs.Walk.{turned}
+use Rattle.branch_tree.proofs.Ahead.{turned_root}
 use Rattle.number_words.specs.Line.{spaced}
 use Rattle.number_words.specs.Number.{number_text}
 use Rattle.certificate_lines.specs.Text.{counts_line, is_all_free, ids_where, header_words, sizes_line, status_lines, claim_line, plan_lines, node_lines, certificate_lines}
 use Rattle.certificate_lines.specs.Due.{Due, HeaderDue, SizesDue, MustOpenDue, MustClosedDue, ClaimDue, OpenDue, ServeDue, NodeDue, ValuesDue, PricesDue, EndDue, NothingDue, Shown, PlanShown, behind_claim, node_or_end}
 use Rattle.certificate_lines.specs.Lines.{behind_sizes, plan_from}
 use Rattle.certificate_lines.specs.Follow.{shown_list, follow, HasSmallCosts, IsSpellable, HasPlanWhere, HasText, plan_shown, nodes_shown, shown_by}
-use Rattle.certificate_lines.proofs.Following.{first_read, none_left, none_shown}
-use Rattle.certificate_lines.proofs.LineSpelling.{Says, NodeLine, on_site, on_lane, on_leaf, IsSpelled, line-spelled}
+use Rattle.certificate_lines.proofs.Following.{turned_below_first, turned_below_second, first_read, none_left, none_shown}
+use Rattle.certificate_lines.proofs.LineSpelling.{Says, NodeLine, on_split, on_leaf, IsSpelled, line-spelled}
 use Rattle.certificate_lines.proofs.Gives.{leaf_fits}
 
 -- a plan that is read can be spelled
@@ -167,12 +167,12 @@ module _ (I : Instance) (last : Claim) where
         begun : Begun (node_lines (site_ids I) node) (nodes_shown claim path node) (node_or_end claim (turned path)) lines all
 
       -- the two children of a split, one behind the other
-      record ChildrenRead (path : Path) (one two : Decision) (lines : List (List ℕ)) (all : List Shown) : Type 0 where
+      record ChildrenRead (path : Path) (split : Split) (lines : List (List ℕ)) (all : List Shown) : Type 0 where
         a : Node
         b : Node
         splits : SplitsAmong (site_ids I) (customer_ids I) a × SplitsAmong (site_ids I) (customer_ids I) b
-        fit : All (λ (l : Path × Duals). DualsFit I l.1) (leaves_below (path ++ one ∷ []) a ++ leaves_below (path ++ two ∷ []) b)
-        begun : Begun (node_lines (site_ids I) a ++ node_lines (site_ids I) b) (nodes_shown claim (path ++ one ∷ []) a ++ nodes_shown claim (path ++ two ∷ []) b) (node_or_end claim (turned path)) lines all
+        fit : All (λ (l : Path × Duals). DualsFit I l.1) (leaves_below (path ++ first_step split ∷ []) a ++ leaves_below (path ++ second_step split ∷ []) b)
+        begun : Begun (node_lines (site_ids I) a ++ node_lines (site_ids I) b) (nodes_shown claim (path ++ first_step split ∷ []) a ++ nodes_shown claim (path ++ second_step split ∷ []) b) (node_or_end claim (turned path)) lines all
 
       leaf_read : (path : Path) (q : ℕ) (nu : ℤ) (lines : List (List ℕ)) (all : List Shown) → q ≤ MAX_SCALE → unsigned_abs nu ≤ MAX_VALUE → Begun (spaced (codes "leaf" ∷ number_text (pos q) ∷ number_text nu ∷ []) ∷ []) [] (ValuesDue claim path q nu) lines all → NodeRead path lines all
       leaf_read path q nu lines all scale price b =
@@ -188,29 +188,27 @@ module _ (I : Instance) (last : Claim) where
           }
 
       module _ (n : ℕ) (below : (path : Path) (lines : List (List ℕ)) (all : List Shown) → length lines ≤ n → Ends (NodeDue claim path) lines all → NodeRead path lines all) where
-        children : (path : Path) (one two : Decision) (lines : List (List ℕ)) (all : List Shown) → second_child one ≡ Some two → second_child two ≡ None → length lines ≤ n → Ends (NodeDue claim (path ++ one ∷ [])) lines all → ChildrenRead path one two lines all
-        children path one two lines all goes ends few e =
+        children : (path : Path) (split : Split) (lines : List (List ℕ)) (all : List Shown) → length lines ≤ n → Ends (NodeDue claim (path ++ first_step split ∷ [])) lines all → ChildrenRead path split lines all
+        children path split lines all few e =
+            let one = first_step split in
+            let two = second_step split in
             let x = below (path ++ one ∷ []) lines all few e in
-            let a = leaves (ap (node_or_end claim) (turned_first one two path goes)) x.begun in
+            let a = leaves (ap (node_or_end claim) (turned_below_first split path)) x.begun in
             let y = below (path ++ two ∷ []) a.rest a.left (omega (arith, few, no_more a)) a.follows in
             record {
               a = x.node;
               b = y.node;
               splits = (x.splits, y.splits);
               fit = All-append (λ (l : Path × Duals). DualsFit I l.1) (leaves_below (path ++ one ∷ []) x.node) (leaves_below (path ++ two ∷ []) y.node) x.fit y.fit;
-              begun = both a (leaves (ap (node_or_end claim) (turned_second two path ends)) y.begun);
+              begun = both a (leaves (ap (node_or_end claim) (turned_below_second split path)) y.begun);
             }
 
         node_of : (path : Path) (lines : List (List ℕ)) (all : List Shown) (f : First (NodeDue claim path) lines all) → length lines ≤ suc n → NodeLine I claim path f.line f.read → NodeRead path lines all
         node_of path lines all f few (on_leaf q nu scale price text says) = leaf_read path q nu lines all scale price (put f text says)
-        node_of path lines all f few (on_site s known text says) =
+        node_of path lines all f few (on_split split known text says) =
             let b = put f text says in
-            let c = children path (Closed s) (Opened s) b.rest b.left refl refl (omega (arith, few, no_more b)) b.follows in
-            record { node = OnSite s c.a c.b; splits = (known, c.splits.0, c.splits.1); fit = c.fit; begun = both b c.begun }
-        node_of path lines all f few (on_lane s c known customer text says) =
-            let b = put f text says in
-            let r = children path (No s c) (Yes s c) b.rest b.left refl refl (omega (arith, few, no_more b)) b.follows in
-            record { node = OnLane s c r.a r.b; splits = (known, customer, r.splits.0, r.splits.1); fit = r.fit; begun = both b r.begun }
+            let c = children path split b.rest b.left (omega (arith, few, no_more b)) b.follows in
+            record { node = Fork split c.a c.b; splits = (known, c.splits.0, c.splits.1); fit = c.fit; begun = both b c.begun }
 
       -- lines that are read where a node is due begin with the text of a node
       node_read : (n : ℕ) (path : Path) (lines : List (List ℕ)) (all : List Shown) → length lines ≤ n → Ends (NodeDue claim path) lines all → NodeRead path lines all

@@ -2,6 +2,7 @@
 use Rattle.std.specs.Prelude.{◌≡◌, ℕ, ◌≤◌, List, [], length, All, Option, None, Some, is_some, ℤ, unsigned_abs, if◌then◌else◌}
 use Rattle.std.specs.List.Sorted.{IsStrictlyIncreasing}
 use Rattle.location_terms.specs.declared.claim.Claim.{Claim}
+use Rattle.location_terms.specs.declared.split.Split.{Split}
 use Rattle.location_terms.specs.declared.limits.TheConstants.{MAX_SCALE, MAX_VALUE}
 use Rattle.location_terms.specs.Instance.{Instance}
 use Rattle.location_terms.specs.Plan.{Plan}
@@ -24,8 +25,7 @@ pub data Due : Type 0 where
 pub data Shown : Type 0 where
   NothingShown : Shown
   PlanShown : Claim → Plan → Shown
-  SiteShown : (site : ℕ) → Shown
-  LaneShown : (site customer : ℕ) → Shown
+  SplitShown : Split → Shown
   LeafShown : Claim → Path → Duals → Shown
 
 -- what is due behind the claim: a plan where the claim has a cost to show, else the tree

@@ -2,15 +2,15 @@
 use Rattle.std.specs.Prelude.{◌≡◌, ℕ, ◌≤◌, List, [], ◌∷◌, ◌++◌, All, Contains, Option, None, Some, Ok, Err, IfSome, IsNone, IsSomeAnd}
 use Rattle.location_terms.specs.declared.claim.Claim.{Claim}
 use Rattle.location_terms.specs.declared.claim.Claim.TheVariants.{Optimal, Infeasible, Bracket}
-use Rattle.location_terms.specs.declared.decision.Decision.TheVariants.{Opened, Closed, Yes, No}
 use Rattle.location_terms.specs.declared.limits.TheConstants.{MAX_COST}
 use Rattle.location_terms.specs.Instance.{Instance, site_ids, customer_ids}
 use Rattle.location_terms.specs.Plan.{Plan, IsPlan, served}
 use Rattle.location_terms.specs.Box.{Path}
+use Rattle.location_terms.specs.Split.{first_step, second_step}
 use Rattle.location_terms.specs.Fit.{DualsFit}
-use Rattle.location_terms.specs.Tree.{Node, Leaf, OnSite, OnLane, IsTree, StandsOn, leaves_of}
+use Rattle.location_terms.specs.Tree.{Node, Leaf, Fork, IsTree, StandsOn, leaves_of}
 use Rattle.location_terms.specs.Certificate.{Certificate, cost_claimed}
-use Rattle.certificate_lines.specs.Due.{Due, Shown, NothingShown, PlanShown, SiteShown, LaneShown, LeafShown}
+use Rattle.certificate_lines.specs.Due.{Due, Shown, NothingShown, PlanShown, SplitShown, LeafShown}
 use Rattle.certificate_lines.specs.Lines.{Said, read_line}
 
 -- what is to be judged or told of a line, if anything
@@ -66,8 +66,7 @@ plan_shown claim (Some P) = PlanShown claim P ∷ []
 -- what the nodes below a path show, in preorder
 abbrev pub nodes_shown : Claim → Path → Node → List Shown
 nodes_shown claim path (Leaf d) = LeafShown claim path d ∷ []
-nodes_shown claim path (OnSite s closed opened) = SiteShown s ∷ (nodes_shown claim (path ++ Closed s ∷ []) closed ++ nodes_shown claim (path ++ Opened s ∷ []) opened)
-nodes_shown claim path (OnLane s c without using) = LaneShown s c ∷ (nodes_shown claim (path ++ No s c ∷ []) without ++ nodes_shown claim (path ++ Yes s c ∷ []) using)
+nodes_shown claim path (Fork split first second) = SplitShown split ∷ (nodes_shown claim (path ++ first_step split ∷ []) first ++ nodes_shown claim (path ++ second_step split ∷ []) second)
 
 -- what a certificate shows
 abbrev pub shown_by : Certificate → List Shown

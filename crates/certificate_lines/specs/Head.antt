@@ -1,3 +1,4 @@
+-- For private functions alone: no public contract cites this page.
 -- What the readers of lines say to each other.
 use Rattle.std.specs.Prelude.{◌==◌, ℕ, ◌%◌, Bool, true, false, ◌&&◌, List, [], ◌∷◌, length, map, drop, Option, None, Some, option_map, Err, ℤ, int_lt, bytes_eq, if◌then◌else◌}
 use Rattle.std.specs.List.{list_all}

@@ -4,6 +4,8 @@ pub mod Follow
 pub mod Model
 pub mod Kind
 pub mod Head
+pub mod Length
 pub mod Lines
 pub mod Shape
 pub mod Text
+pub mod ThirdLine

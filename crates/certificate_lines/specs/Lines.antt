@@ -9,7 +9,9 @@ use Rattle.location_terms.specs.Instance.{Instance, site_ids, customer_ids}
 use Rattle.location_terms.specs.Plan.{Plan}
 use Rattle.location_terms.specs.Box.{Path, must_open, must_close}
 use Rattle.location_terms.specs.Bound.{Duals}
-use Rattle.location_terms.specs.declared.decision.Decision.TheVariants.{Closed, No}
+use Rattle.location_terms.specs.declared.split.Split.{Split}
+use Rattle.location_terms.specs.declared.split.Split.TheVariants.{Site, Lane}
+use Rattle.location_terms.specs.Split.{first_step}
 use Rattle.number_words.specs.Line.{words_of_line, is_spaced}
 use Rattle.number_words.specs.Number.{is_rising}
 use Rattle.number_words.specs.Cost.{is_cost, is_plain_cost, spelled_cost}
@@ -17,7 +19,7 @@ use Rattle.certificate_lines.specs.declared.kind.CertKind.{CertKind}
 use Rattle.certificate_lines.specs.declared.kind.CertKind.TheVariants.{BadLine, NotCanonical, OutOfRange, WrongSizes, UnknownId, WrongStatus, Trailing}
 use Rattle.certificate_lines.specs.Shape.{Shape, Word, Number, row, any_count, just, even_count, text_of_shape, numbers_in}
 use Rattle.certificate_lines.specs.Text.{is_all_free, ids_where}
-use Rattle.certificate_lines.specs.Due.{Due, HeaderDue, SizesDue, MustOpenDue, MustClosedDue, ClaimDue, OpenDue, ServeDue, NodeDue, ValuesDue, PricesDue, EndDue, NothingDue, Shown, NothingShown, PlanShown, SiteShown, LaneShown, LeafShown, behind_claim, behind_leaf}
+use Rattle.certificate_lines.specs.Due.{Due, HeaderDue, SizesDue, MustOpenDue, MustClosedDue, ClaimDue, OpenDue, ServeDue, NodeDue, ValuesDue, PricesDue, EndDue, NothingDue, Shown, NothingShown, PlanShown, SplitShown, LeafShown, behind_claim, behind_leaf}
 
 -- what a line says: what is due behind it, and what it shows; or its fault
 abbrev pub Said : Type 0
@@ -175,12 +177,16 @@ serve_said I claim sites zs =
 abbrev pub read_serve : Instance → Claim → List ℕ → List ℕ → Said
 read_serve I claim sites line = read_shape (row (codes "serve") (just (length I.customers))) line (serve_said I claim sites)
 
+-- a split, behind which its first child is due
+abbrev pub split_said : Claim → Path → Split → Said
+split_said claim path split = then_due (NodeDue claim (path ++ first_step split ∷ [])) (SplitShown split)
+
 -- a split on a site, by its id
 abbrev pub site_said : Instance → Claim → Path → List ℤ → Said
 site_said I claim path (s ∷ []) =
     unless (is_id s) OutOfRange
     (unless (is_among (site_ids I) s) UnknownId
-    (then_due (NodeDue claim (path ++ Closed (unsigned_abs s) ∷ [])) (SiteShown (unsigned_abs s))))
+    (split_said claim path (Site (unsigned_abs s))))
 site_said I claim path _ = Err BadLine
 
 -- a split on a lane, by the ids of its site and its customer
@@ -188,7 +194,7 @@ abbrev pub lane_said : Instance → Claim → Path → List ℤ → Said
 lane_said I claim path (s ∷ c ∷ []) =
     unless (is_id s && is_id c) OutOfRange
     (unless (is_among (site_ids I) s && is_among (customer_ids I) c) UnknownId
-    (then_due (NodeDue claim (path ++ No (unsigned_abs s) (unsigned_abs c) ∷ [])) (LaneShown (unsigned_abs s) (unsigned_abs c))))
+    (split_said claim path (Lane (unsigned_abs s) (unsigned_abs c))))
 lane_said I claim path _ = Err BadLine
 
 -- the first line of a leaf, by its scale and the price on the number of sites

@@ -1,6 +1,7 @@
 -- What the code's line that is due, and what it has read, mean.
-use Rattle.std.specs.Prelude.{◌≡◌, Contains, Result, Ok, Err}
+use Rattle.std.specs.Prelude.{◌≡◌, Result, Ok, Err}
 use Rattle.location_terms.specs.Instance.{Instance, site_ids, customer_ids}
+use Rattle.location_terms.specs.Split.{IsSplitAmong}
 use Rattle.location_terms.specs.Fit.{DualsFit}
 use Rattle.certificate_lines.specs.declared.line.Due.{Due as CodeDue}
 use Rattle.certificate_lines.specs.declared.line.Due.TheVariants as due
@@ -8,7 +9,7 @@ use Rattle.certificate_lines.specs.declared.line.Shown.{Shown as CodeShown}
 use Rattle.certificate_lines.specs.declared.line.Shown.TheVariants as shown
 use Rattle.certificate_lines.specs.declared.line.LineFault.{LineFault}
 use Rattle.certificate_lines.specs.declared.line.LineFault.TheVariants.{Line, NoMemory}
-use Rattle.certificate_lines.specs.Due.{Due, HeaderDue, SizesDue, MustOpenDue, MustClosedDue, ClaimDue, OpenDue, ServeDue, NodeDue, ValuesDue, PricesDue, EndDue, NothingDue, Shown, NothingShown, PlanShown, SiteShown, LaneShown, LeafShown}
+use Rattle.certificate_lines.specs.Due.{Due, HeaderDue, SizesDue, MustOpenDue, MustClosedDue, ClaimDue, OpenDue, ServeDue, NodeDue, ValuesDue, PricesDue, EndDue, NothingDue, Shown, NothingShown, PlanShown, SplitShown, LeafShown}
 use Rattle.certificate_lines.specs.Lines.{Said}
 
 -- the line that is due
@@ -30,14 +31,12 @@ due_of (due.Nothing claim) = NothingDue claim
 abbrev pub shown_of : CodeShown → Shown
 shown_of shown.Nothing = NothingShown
 shown_of (shown.Plan claim plan) = PlanShown claim plan
-shown_of (shown.Site s) = SiteShown s
-shown_of (shown.Lane s c) = LaneShown s c
+shown_of (shown.Split split) = SplitShown split
 shown_of (shown.Leaf claim path duals) = LeafShown claim path duals
 
--- the duals of a leaf that is shown fit, and the site and the customer of a split are ones of the instance
+-- the duals of a leaf that is shown fit, and a split is one of the instance
 abbrev pub IsSound : Instance → Shown → Type 0
-IsSound I (SiteShown s) = Contains (site_ids I) s
-IsSound I (LaneShown s c) = Contains (site_ids I) s × Contains (customer_ids I) c
+IsSound I (SplitShown split) = IsSplitAmong (site_ids I) (customer_ids I) split
 IsSound I (LeafShown claim path duals) = DualsFit I duals
 IsSound I shown = Unit {0}
 

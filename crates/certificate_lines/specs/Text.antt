@@ -5,11 +5,13 @@ use Rattle.location_terms.specs.declared.status.SiteStatus.{SiteStatus}
 use Rattle.location_terms.specs.declared.status.SiteStatus.TheVariants.{Free, MustOpen, MustClose}
 use Rattle.location_terms.specs.declared.claim.Claim.{Claim}
 use Rattle.location_terms.specs.declared.claim.Claim.TheVariants.{Optimal, Infeasible, Bracket}
+use Rattle.location_terms.specs.declared.split.Split.{Split}
+use Rattle.location_terms.specs.declared.split.Split.TheVariants.{Site, Lane}
 use Rattle.location_terms.specs.Instance.{Instance}
 use Rattle.location_terms.specs.Plan.{Plan}
 use Rattle.location_terms.specs.Box.{must_open, must_close}
 use Rattle.location_terms.specs.Bound.{Duals}
-use Rattle.location_terms.specs.Tree.{Node, Leaf, OnSite, OnLane}
+use Rattle.location_terms.specs.Tree.{Node, Leaf, Fork}
 use Rattle.location_terms.specs.Certificate.{Certificate}
 use Rattle.number_words.specs.Cost.{micro_text}
 use Rattle.number_words.specs.Line.{spaced}
@@ -75,11 +77,15 @@ priced (s ∷ sites) (suc n ∷ prices) = s ∷ suc n ∷ priced sites prices
 abbrev pub leaf_lines : List ℕ → Duals → List (List ℕ)
 leaf_lines sites d = spaced (codes "leaf" ∷ number_text (pos d.q) ∷ number_text d.nu ∷ []) ∷ spaced (codes "v" ∷ map number_text d.v) ∷ counts_line (codes "u") (priced sites d.u) ∷ []
 
+-- the site, or the site and the customer of the lane
+abbrev pub split_line : Split → List ℕ
+split_line (Site s) = counts_line (codes "site") (s ∷ [])
+split_line (Lane s c) = counts_line (codes "lane") (s ∷ c ∷ [])
+
 -- the nodes in preorder
 abbrev pub node_lines : List ℕ → Node → List (List ℕ)
 node_lines sites (Leaf d) = leaf_lines sites d
-node_lines sites (OnSite s closed opened) = counts_line (codes "site") (s ∷ []) ∷ (node_lines sites closed ++ node_lines sites opened)
-node_lines sites (OnLane s c without using) = counts_line (codes "lane") (s ∷ c ∷ []) ∷ (node_lines sites without ++ node_lines sites using)
+node_lines sites (Fork split first second) = split_line split ∷ (node_lines sites first ++ node_lines sites second)
 
 abbrev pub certificate_lines : Instance → Certificate → List (List ℕ)
 certificate_lines I cert = spaced (header_words I) ∷ sizes_line I ∷ (status_lines I ++ (claim_line cert.claim ∷ (plan_lines cert.plan ++ (node_lines cert.tree.sites cert.tree.root ++ codes "end" ∷ []))))

@@ -6,6 +6,7 @@ mod claim_line;
 mod fault;
 mod head;
 mod kind;
+mod laws;
 mod leaf;
 mod limited;
 mod limits;
@@ -18,11 +19,7 @@ mod statuses;
 
 pub use fault::CertFault;
 pub use kind::CertKind;
-pub use limits::MAX_CERTIFICATE_BYTES;
+pub use laws::texts_fit;
+pub use limits::{MAX_CERTIFICATE_BYTES, MAX_TREE_NUMBERS};
 pub use line::{Due, LeafHead, LineFault, Shown};
 pub use statuses::{is_all_free, is_status, version};
-
-#[cfg(test)]
-mod fault_tests;
-#[cfg(test)]
-mod read_tests;

@@ -14,7 +14,7 @@ use crate::plan_lines::{read_open, read_serve};
 use branch_tree::Path;
 use dual_value::Duals;
 use instance_store::{Instance, NoMemory};
-use location_terms::{Claim, CustId, SiteId};
+use location_terms::{Claim, SiteId, Split};
 use plan_meaning::Plan;
 use std::alloc::Global;
 use thiserror::Error;
@@ -67,10 +67,8 @@ pub enum Shown {
     Nothing,
     /// The plan of the claim.
     Plan(Claim, Plan),
-    /// A split on a site of the instance.
-    Site(SiteId),
-    /// A split on a lane from a site of the instance to a customer of it.
-    Lane(SiteId, CustId),
+    /// A split on a site of the instance, or on a lane from one to a customer of the instance.
+    Split(Split),
     /// A leaf at a path, with its duals, which fit.
     Leaf(Claim, Path, Duals),
 }

@@ -5,7 +5,7 @@ ghost use Rattle.std.specs.List.{list_all};
 ghost use Rattle.location_terms.specs.Instance.{site_ids, customer_ids};
 ghost use Rattle.number_words.specs.Number.{is_number, number_of};
 ghost use Rattle.certificate_lines.specs.Head.{numbers};
-ghost use Rattle.certificate_lines.specs.Lines.{Said, behind_first, is_among, is_id, site_shape, lane_shape, leaf_shape, site_said, lane_said, leaf_said, read_shape, read_node};
+ghost use Rattle.certificate_lines.specs.Lines.{Said, behind_first, is_among, is_id, site_shape, lane_shape, leaf_shape, split_said, site_said, lane_said, leaf_said, read_shape, read_node};
 ghost use Rattle.certificate_lines.specs.Model.{Answers, IsFaultOf};
 ghost use Rattle.certificate_lines.specs.Shape.{just, row};
 
@@ -13,9 +13,9 @@ use crate::limited::{scale_in, value_in};
 use crate::row::{Count, behind_first, id_in, row_fault};
 use crate::row_checks::place_in;
 use crate::{CertKind, Due, LeafHead, LineFault, Shown};
-use branch_tree::{Decision, Path};
+use branch_tree::Path;
 use instance_store::Instance;
-use location_terms::{Claim, CustId, SiteId};
+use location_terms::{Claim, CustId, SiteId, Split};
 use number_words::LineWords;
 
 /// Reads a node at a path.
@@ -34,11 +34,11 @@ pub(crate) fn read_node(
     }
 }
 
-// A split on a site. The child in which the site is closed comes first.
+// A split on a site.
 fn read_site(
     inst: &Instance,
     claim: Claim,
-    mut path: Path,
+    path: Path,
     line: &[u8],
 ) -> Result<(Due, Shown), LineFault>
     ensures { Answers result (read_shape site_shape line.now (site_said inst.now claim path)) }
@@ -53,16 +53,14 @@ fn read_site(
     if place_in(inst, site).is_none() {
         return Err(LineFault::Line(CertKind::UnknownId));
     }
-    let site = SiteId::new(id);
-    path.push(Decision::Closed(site))?;
-    Ok((Due::Node(claim, path), Shown::Site(site)))
+    split_shown(claim, path, &Split::Site(SiteId::new(id)))
 }
 
-// A split on a lane. The child in which the lane is not used comes first.
+// A split on a lane.
 fn read_lane(
     inst: &Instance,
     claim: Claim,
-    mut path: Path,
+    path: Path,
     line: &[u8],
 ) -> Result<(Due, Shown), LineFault>
     ensures { Answers result (read_shape lane_shape line.now (lane_said inst.now claim path)) }
@@ -74,10 +72,16 @@ fn read_lane(
     if !are_known(inst, site, cust) {
         return Err(LineFault::Line(CertKind::UnknownId));
     }
-    let site = SiteId::new(site_id);
-    let cust = CustId::new(cust_id);
-    path.push(Decision::No(site, cust))?;
-    Ok((Due::Node(claim, path), Shown::Lane(site, cust)))
+    let split = Split::Lane(SiteId::new(site_id), CustId::new(cust_id));
+    split_shown(claim, path, &split)
+}
+
+// A split, whose first child comes next.
+fn split_shown(claim: Claim, mut path: Path, split: &Split) -> Result<(Due, Shown), LineFault>
+    ensures { Answers result (split_said claim path split.now) }
+{
+    path.push(split.first_step())?;
+    Ok((Due::Node(claim, path), Shown::Split(*split)))
 }
 
 // The first line of a leaf: its scale, and its price on the number of sites.

@@ -5,17 +5,17 @@ use Rattle.location_terms.specs.declared.claim.Claim.{Claim}
 use Rattle.location_terms.specs.Instance.{Instance, site_ids, customer_ids}
 use Rattle.location_terms.specs.Plan.{Plan}
 use Rattle.location_terms.specs.Box.{Path}
-use Rattle.location_terms.specs.declared.decision.Decision.TheVariants.{Opened, Closed, Yes, No}
-use Rattle.location_terms.specs.Tree.{Node, Leaf, OnSite, OnLane, Tree}
+use Rattle.location_terms.specs.Split.{first_step, second_step, IsSplitAmong}
+use Rattle.location_terms.specs.Tree.{Node, Leaf, Fork, Tree}
 use Rattle.location_terms.specs.Certificate.{Certificate}
 use Rattle.location_terms.proofs.Places.{length-site_ids, length-customer_ids}
 use Rattle.branch_tree.specs.declared.entry.Entry.{Entry}
-use Rattle.branch_tree.specs.declared.entry.Entry.TheVariants.{End, SiteSplit, LaneSplit}
+use Rattle.branch_tree.specs.declared.entry.Entry.TheVariants.{End, Branch}
 use Rattle.branch_tree.specs.Begun.{Begun}
 use Rattle.branch_tree.specs.Preorder.{flat, tree_of-flat}
 use Rattle.branch_tree.specs.Walk.{IsWhole}
 use Rattle.branch_tree.proofs.Whole.{whole-flat}
-use Rattle.certificate_lines.specs.Due.{Shown, NothingShown, PlanShown, SiteShown, LaneShown, LeafShown}
+use Rattle.certificate_lines.specs.Due.{Shown, NothingShown, PlanShown, SplitShown, LeafShown}
 use Rattle.certificate_lines.specs.Follow.{shown_list, HasText, plan_shown, nodes_shown, shown_by}
 use Rattle.certificate_lines.specs.Model.{IsSound}
 use Rattle.certificate_text.specs.declared.kept.Kept.{Kept}
@@ -38,8 +38,7 @@ pub record Grows (lines : ℕ) (old new : Kept) : Type 0 where
 grows_by_one : (kept : Kept) (shown : Shown) → Grows 1 kept (kept_with kept shown)
 grows_by_one kept NothingShown = record { sites = refl; customers = refl; few = omega arith }
 grows_by_one kept (PlanShown claim P) = record { sites = refl; customers = refl; few = omega arith }
-grows_by_one kept (SiteShown s) = record { sites = refl; customers = refl; few = omega (arith, length-append kept.nodes.entries (SiteSplit s ∷ [])) }
-grows_by_one kept (LaneShown s c) = record { sites = refl; customers = refl; few = omega (arith, length-append kept.nodes.entries (LaneSplit s c ∷ [])) }
+grows_by_one kept (SplitShown split) = record { sites = refl; customers = refl; few = omega (arith, length-append kept.nodes.entries (Branch split ∷ [])) }
 grows_by_one kept (LeafShown claim path d) = record { sites = refl; customers = refl; few = omega (arith, length-append kept.nodes.entries (End d ∷ [])) }
 
 grows_by_all : (kept : Kept) (seen : List Shown) → Grows (length seen) kept (kept_all kept seen)
@@ -56,8 +55,7 @@ grows I kept seen is = subst (Grows (length seen) (nothing_kept I)) (sym is) (gr
 fits_on : (I : Instance) (nodes : Begun) (shown : Shown) → nodes.sites ≡ site_ids I → nodes.customers ≡ customer_ids I → IsSound I shown → FitsOn nodes shown
 fits_on I nodes NothingShown sites customers sound = tt
 fits_on I nodes (PlanShown claim P) sites customers sound = tt
-fits_on I nodes (SiteShown s) sites customers sound = rw sites sound
-fits_on I nodes (LaneShown s c) sites customers sound = rw (sites, customers) sound
+fits_on I nodes (SplitShown split) sites customers sound = subst (λ ss. IsSplitAmong ss nodes.customers split) (sym sites) (subst (λ cs. IsSplitAmong (site_ids I) cs split) (sym customers) sound)
 fits_on I nodes (LeafShown claim path d) sites customers sound =
     (sound.of_instance.sites ∙ sym (length-site_ids I) ∙ ap length (sym sites), sound.of_instance.customers ∙ sym (length-customer_ids I) ∙ ap length (sym customers), sound.in_limits)
 
@@ -102,12 +100,10 @@ kept_children kept xs ys rest a b e on_a on_b =
 -- the nodes of a tree are kept as its nodes in preorder
 kept_nodes : (claim : Claim) (path : Path) (t : Node) (kept : Kept) (rest : List Shown) → kept_all kept (nodes_shown claim path t ++ rest) ≡ kept_all (with_nodes kept (flat t)) rest
 kept_nodes claim path (Leaf d) kept rest = refl
-kept_nodes claim path (OnSite s a b) kept rest =
-    kept_children kept (nodes_shown claim (path ++ Closed s ∷ []) a) (nodes_shown claim (path ++ Opened s ∷ []) b) rest (flat a) (flat b) (SiteSplit s)
-    (kept_nodes claim (path ++ Closed s ∷ []) a) (kept_nodes claim (path ++ Opened s ∷ []) b)
-kept_nodes claim path (OnLane s c a b) kept rest =
-    kept_children kept (nodes_shown claim (path ++ No s c ∷ []) a) (nodes_shown claim (path ++ Yes s c ∷ []) b) rest (flat a) (flat b) (LaneSplit s c)
-    (kept_nodes claim (path ++ No s c ∷ []) a) (kept_nodes claim (path ++ Yes s c ∷ []) b)
+kept_nodes claim path (Fork split a b) kept rest =
+    let below_a = path ++ first_step split ∷ [] in
+    let below_b = path ++ second_step split ∷ [] in
+    kept_children kept (nodes_shown claim below_a a) (nodes_shown claim below_b b) rest (flat a) (flat b) (Branch split) (kept_nodes claim below_a a) (kept_nodes claim below_b b)
 
 -- what is kept of a whole certificate on the instance
 abbrev pub whole_kept : Instance → Option Plan → Node → Kept

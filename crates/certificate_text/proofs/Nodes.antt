@@ -1,18 +1,18 @@
 -- The text of a tree's nodes, one behind another.
 use Rattle.std.proofs.Common.{◌≡◌, ℕ, ◌<◌, List, [], ◌∷◌, ◌++◌, length, get_or, ap, sym, ◌∙◌, subst, append_assoc, append-nil, Option, None, Some, option_map}
-use Rattle.std.specs.Prelude.{codes, flat_map, slice_get, IfSome, Result, OnOk}
+use Rattle.std.specs.Prelude.{flat_map, slice_get, IfSome, Result, OnOk}
 use Rattle.std.specs.Option.{option_and_then}
 use Rattle.std.proofs.lemmas.Grind.{flat_map-append}
 use Rattle.std.proofs.lemmas.Option.{slice_get-map, slice_get-get_or}
 use Rattle.shelf_port.proofs.Results.{OnOk-then}
-use Rattle.location_terms.specs.Tree.{Node, Leaf, OnSite, OnLane}
+use Rattle.location_terms.specs.Tree.{Node, Leaf, Fork}
 use Rattle.branch_tree.specs.declared.entry.Entry.{Entry}
-use Rattle.branch_tree.specs.declared.entry.Entry.TheVariants.{End, SiteSplit, LaneSplit}
+use Rattle.branch_tree.specs.declared.entry.Entry.TheVariants.{End, Branch}
 use Rattle.branch_tree.specs.declared.node.NodeKind.{NodeKind as Shown}
 use Rattle.branch_tree.specs.Preorder.{flat, no_duals}
 use Rattle.branch_tree.specs.Made.{nodes_shown, entry_shown, duals_of, duals_at}
 use Rattle.branch_tree.proofs.Flat.{nodes_shown-flat}
-use Rattle.certificate_lines.specs.Text.{counts_line, leaf_lines, node_lines, text_of_lines}
+use Rattle.certificate_lines.specs.Text.{leaf_lines, split_line, node_lines, text_of_lines}
 use Rattle.certificate_text.specs.Written.{split_lines, entry_text}
 
 pub text_of_lines-append : (xs ys : List (List ℕ)) → text_of_lines (xs ++ ys) ≡ text_of_lines xs ++ text_of_lines ys
@@ -44,8 +44,7 @@ split_text sites line xs ys es fs first second =
 -- the text of a tree is that of each node, in preorder
 pub node_text : (sites : List ℕ) (t : Node) → text_of_lines (node_lines sites t) ≡ flat_map (entry_text sites) (flat t)
 node_text sites (Leaf d) = sym (append-nil (text_of_lines (leaf_lines sites d)))
-node_text sites (OnSite s a b) = split_text sites (counts_line (codes "site") (s ∷ [])) (node_lines sites a) (node_lines sites b) (flat a) (flat b) (node_text sites a) (node_text sites b)
-node_text sites (OnLane s c a b) = split_text sites (counts_line (codes "lane") (s ∷ c ∷ [])) (node_lines sites a) (node_lines sites b) (flat a) (flat b) (node_text sites a) (node_text sites b)
+node_text sites (Fork split a b) = split_text sites (split_line split) (node_lines sites a) (node_lines sites b) (flat a) (flat b) (node_text sites a) (node_text sites b)
 
 -- the text of the node at a place, as it was added
 abbrev pub IsAddedAt : List ℕ → Node → ℕ → List ℕ → List ℕ → Type 0
@@ -58,8 +57,7 @@ split_of_entry : (sites old new : List ℕ) (o : Option Entry) (node : Shown) �
     → new ≡ old ++ text_of_lines (split_lines node) → IfSome o (λ e. new ≡ old ++ entry_text sites e)
 split_of_entry sites old new None node shows none added = tt
 split_of_entry sites old new (Some (End x)) node shows none added = cc
-split_of_entry sites old new (Some (SiteSplit s)) node shows none added = let same : node ≡ entry_shown (SiteSplit s) = cc in subst (λ n. new ≡ old ++ text_of_lines (split_lines n)) same added
-split_of_entry sites old new (Some (LaneSplit s c)) node shows none added = let same : node ≡ entry_shown (LaneSplit s c) = cc in subst (λ n. new ≡ old ++ text_of_lines (split_lines n)) same added
+split_of_entry sites old new (Some (Branch split)) node shows none added = let same : node ≡ entry_shown (Branch split) = cc in subst (λ n. new ≡ old ++ text_of_lines (split_lines n)) same added
 
 pub split_added : {T E : Type 0} (r : Result T E) (sites old new : List ℕ) (t : Node) (at : ℕ) (node : Shown) → slice_get (nodes_shown t) at ≡ Some node → None ≡ duals_at t at
     → OnOk r (new ≡ old ++ text_of_lines (split_lines node)) → OnOk r (IsAddedAt sites t at old new)

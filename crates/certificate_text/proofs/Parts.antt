@@ -6,6 +6,7 @@ use Rattle.std.proofs.lemmas.List.{take_at, take_more, drop_all, take-append-dro
 use Rattle.shelf_port.proofs.Results.{OnOk-then}
 use Rattle.shelf_port.specs.Files.{Files, with_file, with_added, LeavesPrefix, AddsPrefix}
 use Rattle.shelf_port.proofs.Told.{with_added-with_file}
+use Rattle.location_terms.specs.declared.claim.Claim.{Claim}
 use Rattle.location_terms.specs.Instance.{Instance}
 use Rattle.location_terms.specs.Plan.{Plan}
 use Rattle.location_terms.specs.Certificate.{Certificate}
@@ -76,29 +77,27 @@ module _ (start now : Option Files) (name text upto : List ℕ) (so_far : IsGath
   gathered_anew after next added none = (upto, gathered_all after added, ap (λ t. upto ++ t) none ∙ append-nil upto)
 
 -- the text of the lines before the tree
-abbrev pub head_text : Instance → Certificate → List ℕ
-head_text I cert = text_of_lines (head_lines I cert)
+abbrev pub head_text : Instance → Claim → Option Plan → List ℕ
+head_text I claim plan = text_of_lines (head_lines I claim plan)
 
 -- the lines before the tree, added one behind another
-pub head_added : {T E : Type 0} (r : Result T E) (I : Instance) (cert : Certificate) (plan : Option Plan) (old a b c d new : List ℕ)
+pub head_added : {T E : Type 0} (r : Result T E) (I : Instance) (claim : Claim) (plan : Option Plan) (old a b c d new : List ℕ)
     → a ≡ (old ++ spaced (header_words I)) ++ 10 ∷ []
     → b ≡ (a ++ sizes_line I) ++ 10 ∷ []
     → c ≡ b ++ text_of_lines (status_lines I)
-    → d ≡ (c ++ claim_line cert.claim) ++ 10 ∷ []
-    → plan ≡ cert.plan
+    → d ≡ (c ++ claim_line claim) ++ 10 ∷ []
     → OnOk r (new ≡ d ++ text_of_lines (plan_lines plan))
-    → OnOk r (new ≡ old ++ head_text I cert)
-head_added r I cert plan old a b c d new header sizes statuses claim same added =
+    → OnOk r (new ≡ old ++ head_text I claim plan)
+head_added r I claim plan old a b c d new header sizes statuses claimed added =
     let first : List (List ℕ) = spaced (header_words I) ∷ sizes_line I ∷ [] in
     let from_header = one_line old a (spaced (header_words I)) header in
     let from_sizes = more_lines old a b (spaced (header_words I) ∷ []) (sizes_line I ∷ []) from_header (one_line a b (sizes_line I) sizes) in
     let from_statuses = more_lines old b c first (status_lines I) from_sizes statuses in
-    let from_claim = more_lines old c d (first ++ status_lines I) (claim_line cert.claim ∷ []) from_statuses (one_line c d (claim_line cert.claim) claim) in
+    let from_claim = more_lines old c d (first ++ status_lines I) (claim_line claim ∷ []) from_statuses (one_line c d (claim_line claim) claimed) in
     OnOk-then r
     (λ plan_added.
-    more_lines old d new ((first ++ status_lines I) ++ claim_line cert.claim ∷ []) (plan_lines plan) from_claim plan_added
-    ∙ ap (λ lines. old ++ text_of_lines (first ++ lines)) (append_assoc (status_lines I) (claim_line cert.claim ∷ []) (plan_lines plan))
-    ∙ ap (λ p. old ++ text_of_lines (first ++ (status_lines I ++ claim_line cert.claim ∷ plan_lines p))) same)
+    more_lines old d new ((first ++ status_lines I) ++ claim_line claim ∷ []) (plan_lines plan) from_claim plan_added
+    ∙ ap (λ lines. old ++ text_of_lines (first ++ lines)) (append_assoc (status_lines I) (claim_line claim ∷ []) (plan_lines plan)))
     added
 
 -- the text of some nodes of the tree
@@ -107,12 +106,12 @@ nodes_text cert es = flat_map (entry_text cert.tree.sites) es
 
 module _ (I : Instance) (cert : Certificate) where
   -- the text in its three parts
-  whole_text : head_text I cert ++ (nodes_text cert (flat cert.tree.root) ++ codes "end\n") ≡ certificate_text I cert
+  whole_text : head_text I cert.claim cert.plan ++ (nodes_text cert (flat cert.tree.root) ++ codes "end\n") ≡ certificate_text I cert
   whole_text =
       let nodes : List (List ℕ) = node_lines cert.tree.sites cert.tree.root in
-      ap (λ t. head_text I cert ++ (t ++ codes "end\n")) (sym (node_text cert.tree.sites cert.tree.root))
-      ∙ ap (λ t. head_text I cert ++ t) (sym (text_of_lines-append nodes (codes "end" ∷ [])))
-      ∙ sym (text_of_lines-append (head_lines I cert) (nodes ++ codes "end" ∷ []))
+      ap (λ t. head_text I cert.claim cert.plan ++ (t ++ codes "end\n")) (sym (node_text cert.tree.sites cert.tree.root))
+      ∙ ap (λ t. head_text I cert.claim cert.plan ++ t) (sym (text_of_lines-append nodes (codes "end" ∷ [])))
+      ∙ sym (text_of_lines-append (head_lines I cert.claim cert.plan) (nodes ++ codes "end" ∷ []))
       ∙ ap (λ lines. text_of_lines (spaced (header_words I) ∷ sizes_line I ∷ lines)) (append_assoc (status_lines I) (claim_line cert.claim ∷ plan_lines cert.plan) (nodes ++ codes "end" ∷ []))
 
   -- the nodes in preorder
@@ -121,7 +120,7 @@ module _ (I : Instance) (cert : Certificate) where
 
   -- the text before the node at a place, that of the node, and the text from a place on
   unfoldable pub text_before : ℕ → List ℕ
-  text_before k = head_text I cert ++ nodes_text cert (take k nodes)
+  text_before k = head_text I cert.claim cert.plan ++ nodes_text cert (take k nodes)
 
   abbrev pub text_at : ℕ → List ℕ
   text_at k = entry_text cert.tree.sites (get_or nodes k (End no_duals))
@@ -133,8 +132,8 @@ module _ (I : Instance) (cert : Certificate) where
   unfolding text_before text_from
   cut k =
       let f : Entry → List ℕ = entry_text cert.tree.sites in
-      append_assoc (head_text I cert) (nodes_text cert (take k nodes)) (text_from k)
-      ∙ ap (λ t. head_text I cert ++ t)
+      append_assoc (head_text I cert.claim cert.plan) (nodes_text cert (take k nodes)) (text_from k)
+      ∙ ap (λ t. head_text I cert.claim cert.plan ++ t)
       (sym (append_assoc (nodes_text cert (take k nodes)) (nodes_text cert (drop k nodes)) (codes "end\n"))
       ∙ ap (λ t. t ++ codes "end\n") (sym (flat_map-append f (take k nodes) (drop k nodes)) ∙ ap (flat_map f) (take-append-drop k nodes)))
       ∙ whole_text
@@ -142,8 +141,8 @@ module _ (I : Instance) (cert : Certificate) where
   text_next : (k : ℕ) → k < length nodes → text_before k ++ text_at k ≡ text_before (k + 1)
   unfolding text_before
   text_next k within =
-      append_assoc (head_text I cert) (nodes_text cert (take k nodes)) (text_at k)
-      ∙ ap (λ t. head_text I cert ++ t)
+      append_assoc (head_text I cert.claim cert.plan) (nodes_text cert (take k nodes)) (text_at k)
+      ∙ ap (λ t. head_text I cert.claim cert.plan ++ t)
       (ap (λ t. nodes_text cert (take k nodes) ++ t) (sym (append-nil (text_at k)))
       ∙ sym (flat_map-append (entry_text cert.tree.sites) (take k nodes) (get_or nodes k (End no_duals) ∷ []))
       ∙ ap (nodes_text cert) (sym (take_more nodes k (End no_duals) within)))
@@ -153,10 +152,10 @@ module _ (I : Instance) (cert : Certificate) where
   cut_behind k past = ap (λ es. text_before k ++ (nodes_text cert es ++ codes "end\n")) (sym (drop_all k nodes past)) ∙ cut k
 
   -- the file is empty, and the lines before the tree are gathered
-  pub head_gathered : (start now : Option Files) (name empty text : List ℕ) → now ≡ with_file start name [] → text ≡ empty ++ head_text I cert → empty ≡ [] → IsGathered start now name text (text_before 0)
+  pub head_gathered : (start now : Option Files) (name empty text : List ℕ) → now ≡ with_file start name [] → text ≡ empty ++ head_text I cert.claim cert.plan → empty ≡ [] → IsGathered start now name text (text_before 0)
   unfolding text_before
   head_gathered start now name empty text is added none =
-      ([], is, added ∙ ap (λ t. t ++ head_text I cert) none ∙ sym (append-nil (head_text I cert)))
+      ([], is, added ∙ ap (λ t. t ++ head_text I cert.claim cert.plan) none ∙ sym (append-nil (head_text I cert.claim cert.plan)))
 
   module _ (start now : Option Files) (name text next : List ℕ) (k : ℕ) (so_far : IsGathered start now name text (text_before k)) where
     -- the node at the place is gathered, too

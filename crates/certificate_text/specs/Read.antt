@@ -1,14 +1,16 @@
+-- For private functions alone: no public contract cites this page.
 -- What is kept of the lines of a certificate that are read, and what reading it comes to.
-use Rattle.std.specs.Prelude.{◌≡◌, ◌⊎◌, ℕ, List, [], ◌∷◌, length, Contains, Option, None, Some, Result, Ok, Err}
+use Rattle.std.specs.Prelude.{◌≡◌, ◌⊎◌, ℕ, List, [], ◌∷◌, length, Option, None, Some, Result, Ok, Err}
 use Rattle.location_terms.specs.declared.claim.Claim.{Claim}
 use Rattle.location_terms.specs.Instance.{Instance}
+use Rattle.location_terms.specs.Split.{IsSplitAmong}
 use Rattle.location_terms.specs.Tree.{HasLists}
 use Rattle.location_terms.specs.Certificate.{Certificate}
-use Rattle.branch_tree.specs.declared.entry.Entry.TheVariants.{End, SiteSplit, LaneSplit}
+use Rattle.branch_tree.specs.declared.entry.Entry.TheVariants.{End, Branch}
 use Rattle.branch_tree.specs.Begun.{Begun, begun_on, grown, built}
 use Rattle.shelf_port.specs.Files.{Files, HasFile}
 use Rattle.certificate_lines.specs.declared.fault.CertFault.{CertFault}
-use Rattle.certificate_lines.specs.Due.{Shown, NothingShown, PlanShown, SiteShown, LaneShown, LeafShown}
+use Rattle.certificate_lines.specs.Due.{Shown, NothingShown, PlanShown, SplitShown, LeafShown}
 use Rattle.certificate_lines.specs.Follow.{HasText}
 use Rattle.certificate_lines.specs.Text.{certificate_text}
 use Rattle.certificate_reader.specs.Behind.{IsUnread}
@@ -25,8 +27,7 @@ nothing_kept I = record { plan = None; nodes = begun_on I }
 abbrev pub kept_with : Kept → Shown → Kept
 kept_with kept NothingShown = kept
 kept_with kept (PlanShown claim P) = record kept { plan = Some P }
-kept_with kept (SiteShown s) = record kept { nodes = grown kept.nodes (SiteSplit s) }
-kept_with kept (LaneShown s c) = record kept { nodes = grown kept.nodes (LaneSplit s c) }
+kept_with kept (SplitShown split) = record kept { nodes = grown kept.nodes (Branch split) }
 kept_with kept (LeafShown claim path d) = record kept { nodes = grown kept.nodes (End d) }
 
 -- what is kept once these are shown, in order
@@ -36,8 +37,7 @@ kept_all kept (shown ∷ rest) = kept_all (kept_with kept shown) rest
 
 -- a node that is shown is on the ids that the tree stands on
 abbrev pub FitsOn : Begun → Shown → Type 0
-FitsOn nodes (SiteShown s) = Contains nodes.sites s
-FitsOn nodes (LaneShown s c) = Contains nodes.sites s × Contains nodes.customers c
+FitsOn nodes (SplitShown split) = IsSplitAmong nodes.sites nodes.customers split
 FitsOn nodes (LeafShown claim path d) = HasLists (length nodes.sites) (length nodes.customers) d
 FitsOn nodes shown = Unit {0}
 

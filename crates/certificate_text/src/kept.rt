@@ -41,8 +41,7 @@ impl Kept {
                 self.plan = Some(plan);
                 Ok(())
             }
-            Shown::Site(site) => self.nodes.split_site(site),
-            Shown::Lane(site, cust) => self.nodes.split_lane(site, cust),
+            Shown::Split(split) => self.nodes.split(split),
             Shown::Leaf(_, _, duals) => self.nodes.leaf(duals),
         }
     }

@@ -8,13 +8,11 @@ mod print;
 mod read;
 mod write;
 
-pub use certificate::Certificate;
+pub use certificate::{Certificate, CertificateRef};
 pub use certificate_reader::{CertFault, CertKind, MAX_CERTIFICATE_BYTES};
 pub use laws::one_text;
 pub use read::read_cert;
 pub use write::write_cert;
 
-#[cfg(test)]
-mod read_tests;
 #[cfg(test)]
 mod tests;

@@ -3,13 +3,13 @@ ghost use Rattle.std.specs.Prelude.{◌≡◌, ◌++◌, ◌∷◌, [], OnOk, co
 ghost use Rattle.std.specs.Option.{option_copied};
 ghost use Rattle.number_words.specs.Line.{spaced};
 ghost use Rattle.number_words.specs.Number.{number_text};
-ghost use Rattle.certificate_lines.specs.Text.{is_status, ids_where, counts_line, header_words, sizes_line, status_lines, claim_line, plan_lines, leaf_lines, priced, text_of_lines};
+ghost use Rattle.certificate_lines.specs.Text.{is_status, ids_where, counts_line, header_words, sizes_line, status_lines, claim_line, plan_lines, leaf_lines, split_line, priced, text_of_lines};
 ghost use Rattle.certificate_text.specs.Written.{counted, scale_line, split_lines};
 
 use branch_tree::{Duals, NodeKind};
 use certificate_lines::{is_all_free, is_status, version};
 use instance_store::Instance;
-use location_terms::{Claim, SiteId, SiteStatus};
+use location_terms::{Claim, SiteId, SiteStatus, Split};
 use number_words::{push_count, push_number};
 use plan_meaning::Plan;
 use std::alloc::AllocError;
@@ -63,11 +63,11 @@ fn push_status(
 }
 
 /// The claim.
-pub(crate) fn push_claim(text: &mut Vec<u8>, claim: &Claim) -> Result<(), AllocError>
-    ensures { OnOk result (text.new.items ≡ text.old.items ++ claim_line claim.now ++ 10 ∷ []) }
+pub(crate) fn push_claim(text: &mut Vec<u8>, claim: Claim) -> Result<(), AllocError>
+    ensures { OnOk result (text.new.items ≡ text.old.items ++ claim_line claim ++ 10 ∷ []) }
 {
     text.extend_from_slice(b"claim ")?;
-    fixed_cost::push_claim(text, *claim)?;
+    fixed_cost::push_claim(text, claim)?;
     text.extend_from_slice(b"\n")
 }
 
@@ -112,12 +112,21 @@ pub(crate) fn push_split(text: &mut Vec<u8>, node: NodeKind) -> Result<(), Alloc
 {
     match node {
         NodeKind::Leaf => Ok(()),
-        NodeKind::Site(site) => {
+        NodeKind::Split(split) => push_split_line(text, split),
+    }
+}
+
+// The site, or the site and the customer of the lane.
+fn push_split_line(text: &mut Vec<u8>, split: Split) -> Result<(), AllocError>
+    ensures { OnOk result (text.new.items ≡ text.old.items ++ text_of_lines (split_line split ∷ [])) }
+{
+    match split {
+        Split::Site(site) => {
             text.extend_from_slice(b"site")?;
             add_count(text, u64::from(site.number()))?;
             text.extend_from_slice(b"\n")
         }
-        NodeKind::Lane(site, cust) => {
+        Split::Lane(site, cust) => {
             text.extend_from_slice(b"lane")?;
             add_count(text, u64::from(site.number()))?;
             add_count(text, u64::from(cust.number()))?;

@@ -1,4 +1,4 @@
-use Rattle.certificate_text.proofs.read_tests.reads_within.Goals as goal
+use Rattle.certificate_text.proofs.tests.reads.Goals as goal
 
 pub read_lines-requires : goal.read_lines-requires
 read_lines-requires c = record { start = (c.args.limit, c.new-reader.ensures _ _ _) }
