@@ -5,7 +5,7 @@ use Rattle.std.specs.List.{list_any}
 use Rattle.std.specs.Option.{is_none, option_map, option_and_then}
 use Rattle.dualoc_cli.specs.declared.options.Options.{Options}
 use Rattle.dualoc_cli.specs.declared.words.FileForm.TheVariants.{Ufl}
-use Rattle.dualoc_cli.specs.Command.{Command, OnFile, InstanceFile, instance_file, ResultFiles, into_files, Job, SolveShort, SolveLong, ShowDuals, Check, are_names, options_of, file_of, job_on, unbudgeted, long_of, solve_of, duals_of, check_of, command_of}
+use Rattle.dualoc_cli.specs.Command.{Command, OnFile, InstanceFile, instance_file, ResultFiles, into_files, Job, SolveShort, SolveLong, ShowDuals, Check, are_names, options_of, file_of, job_on, unbudgeted, long_of, solve_command, duals_command, check_command, command_of}
 
 -- the first of some names isn't among the others, which are names too
 first_name : (x y z : Bool) → (not x && not y && z) ≡ true → (y ≡ false) × (z ≡ true)
@@ -59,8 +59,8 @@ module _ (file : InstanceFile) (into : ResultFiles) (given : Option ℕ) where
   short_apart false name e = absurd cc
   short_apart true name e = absurd cc
 
-  solve_apart : (words : List (List ℕ)) → Asks (solve_of words) → IsApart
-  unfolding solve_of
+  solve_apart : (words : List (List ℕ)) → Asks (solve_command words) → IsApart
+  unfolding solve_command
   solve_apart [] e = absurd cc
   solve_apart (a ∷ []) e = absurd cc
   solve_apart (form ∷ name ∷ []) e = short_apart _ name e
@@ -79,21 +79,21 @@ module _ (file : InstanceFile) (into : ResultFiles) (given : Option ℕ) where
   other_by true form name job None other e = absurd cc
   other_by true form name job (Some o) other e = tested_by (is_none o.budget) form name job o.capacity other e
 
-  duals_apart : (words : List (List ℕ)) → Asks (duals_of words) → IsApart
-  unfolding duals_of
+  duals_apart : (words : List (List ℕ)) → Asks (duals_command words) → IsApart
+  unfolding duals_command
   duals_apart [] e = absurd cc
   duals_apart (a ∷ []) e = absurd cc
   duals_apart (form ∷ name ∷ options) e = other_by _ form name ShowDuals (options_of options) (λ same. cc) e
 
-  check_apart : (words : List (List ℕ)) → Asks (check_of words) → IsApart
-  unfolding check_of
+  check_apart : (words : List (List ℕ)) → Asks (check_command words) → IsApart
+  unfolding check_command
   check_apart [] e = absurd cc
   check_apart (a ∷ []) e = absurd cc
   check_apart (a ∷ b ∷ []) e = absurd cc
   check_apart (form ∷ name ∷ certificate ∷ options) e = other_by _ form name (Check certificate) (options_of options) (λ same. cc) e
 
   by_verb : (is_solve is_duals is_check : Bool) (words : List (List ℕ))
-      → Asks (if is_solve then solve_of words else (if is_duals then duals_of words else (if is_check then check_of words else None))) → IsApart
+      → Asks (if is_solve then solve_command words else (if is_duals then duals_command words else (if is_check then check_command words else None))) → IsApart
   by_verb true is_duals is_check words e = solve_apart words e
   by_verb false true is_check words e = duals_apart words e
   by_verb false false true words e = check_apart words e

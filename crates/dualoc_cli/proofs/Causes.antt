@@ -42,7 +42,7 @@ use Rattle.fixed_cost.specs.declared.limits.TheConstants.{MAX_INSTANCE_BYTES}
 use Rattle.dualoc_cli.specs.declared.reply.Reply.{Reply}
 use Rattle.dualoc_cli.specs.declared.reply.Reply.TheVariants.{Optimum, Ascent, CertificateUnread, LongCertificate, Misspelt, Judged}
 use Rattle.dualoc_cli.specs.Command.{InstanceFile, Job, OnFile, SolveShort, SolveLong, ShowDuals, Check, command_of, meaning_of, meaning_in}
-use Rattle.dualoc_cli.specs.Due.{Run, IsTooLong, HasTask, FailsToRead, IsRaised, IsAnswered, IsConfirmed, IsCause, ChangesNoFile, Keeps as KeepsFiles}
+use Rattle.dualoc_cli.specs.Due.{Run, IsTooLong, HasTask, FailsToRead, IsRaised, IsAnswered, IsConfirmed, IsCause, ChangesNoFile, KeepsFiles}
 use Rattle.dualoc_cli.specs.Step.{Covers, IsPrintable}
 use Rattle.dualoc_cli.proofs.Commands.{suited}
 

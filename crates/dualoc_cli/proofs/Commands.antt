@@ -11,7 +11,7 @@ use Rattle.instance_store.specs.Small.{IsSmall}
 use Rattle.dualoc_cli.specs.declared.options.Options.{Options}
 use Rattle.dualoc_cli.specs.declared.words.FileForm.{FileForm}
 use Rattle.dualoc_cli.specs.declared.words.FileForm.TheVariants.{Cap, Ufl}
-use Rattle.dualoc_cli.specs.Command.{Command, OnFile, InstanceFile, instance_file, ResultFiles, into_files, Job, SolveShort, SolveLong, ShowDuals, Check, are_names, form_of, budget_of, capacity_of, options_with, both_options, options_of, file_of, job_on, unbudgeted, long_of, solve_of, duals_of, check_of, command_of}
+use Rattle.dualoc_cli.specs.Command.{Command, OnFile, InstanceFile, instance_file, ResultFiles, into_files, Job, SolveShort, SolveLong, ShowDuals, Check, are_names, form_of, budget_of, capacity_of, options_with, both_options, options_of, file_of, job_on, unbudgeted, long_of, solve_command, duals_command, check_command, command_of}
 use Rattle.dualoc_cli.specs.Step.{IsSuited}
 
 -- The capacity that options give is an amount.
@@ -104,22 +104,22 @@ short_sound : (named : Bool) (name : List ℕ) → Sound (if named then Some (On
 short_sound true name = record { small = tt; short = λ same. refl }
 short_sound false name = tt
 
-solve_sound : (words : List (List ℕ)) → Sound (solve_of words)
-unfolding solve_of
+solve_sound : (words : List (List ℕ)) → Sound (solve_command words)
+unfolding solve_command
 solve_sound [] = tt
 solve_sound (a ∷ []) = tt
 solve_sound (form ∷ name ∷ []) = short_sound _ name
 solve_sound (a ∷ b ∷ c ∷ []) = tt
 solve_sound (form ∷ name ∷ plan ∷ certificate ∷ options) = long_sound form name (into_files plan certificate) (options_of options) (options_small options)
 
-duals_sound : (words : List (List ℕ)) → Sound (duals_of words)
-unfolding duals_of
+duals_sound : (words : List (List ℕ)) → Sound (duals_command words)
+unfolding duals_command
 duals_sound [] = tt
 duals_sound (a ∷ []) = tt
 duals_sound (form ∷ name ∷ options) = sound_if (are_names (name ∷ [])) _ (unbudgeted_sound form name ShowDuals (options_of options) (λ same. cc) (options_small options))
 
-check_sound : (words : List (List ℕ)) → Sound (check_of words)
-unfolding check_of
+check_sound : (words : List (List ℕ)) → Sound (check_command words)
+unfolding check_command
 check_sound [] = tt
 check_sound (a ∷ []) = tt
 check_sound (a ∷ b ∷ []) = tt
@@ -129,8 +129,8 @@ check_sound (form ∷ name ∷ certificate ∷ options) =
 command_sound : (words : List (List ℕ)) → Sound (command_of words)
 command_sound [] = tt
 command_sound (verb ∷ words) =
-    either_sound (bytes_eq verb (codes "solve")) (solve_of words) _ (solve_sound words)
-    (either_sound (bytes_eq verb (codes "duals")) (duals_of words) _ (duals_sound words) (sound_if (bytes_eq verb (codes "check")) (check_of words) (check_sound words)))
+    either_sound (bytes_eq verb (codes "solve")) (solve_command words) _ (solve_sound words)
+    (either_sound (bytes_eq verb (codes "duals")) (duals_command words) _ (duals_sound words) (sound_if (bytes_eq verb (codes "check")) (check_command words) (check_sound words)))
 
 pub suited : (words : List (List ℕ)) (file : InstanceFile) (job : Job) → command_of words ≡ Some (OnFile file job) → IsSuited file job
 suited words file job e = subst Sound e (command_sound words)

@@ -1,7 +1,6 @@
 pub mod Apart
 pub mod Causes
 pub mod Commands
-pub mod Lengths
 pub mod NoCommands
 pub mod Outcomes
 pub mod Searching

@@ -1,7 +1,7 @@
 -- Words of a length that no command has.
 use Rattle.std.proofs.Common.{◌≡◌, ℕ, ◌<◌, ◌≤◌, List, [], ◌∷◌, map, length, Option, None, refl, arith}
 use Rattle.std.proofs.lemmas.List.{length-map}
-use Rattle.dualoc_cli.specs.Command.{options_of, solve_of, duals_of, check_of}
+use Rattle.dualoc_cli.specs.Command.{options_of, solve_command, duals_command, check_command}
 
 module _ {X : Type 0} (f : X → List ℕ) (words : List X) where
   many : (n : ℕ) → n ≤ length words → n ≤ length (map f words)
@@ -17,22 +17,22 @@ none_of_many (a ∷ []) h = absurd (omega (arith, h))
 none_of_many (a ∷ b ∷ []) h = absurd (omega (arith, h))
 none_of_many (a ∷ b ∷ c ∷ rest) h = refl
 
-none_of_few : (words : List (List ℕ)) → length words < 4 → (length words ≡ 2 → ⊥) → None ≡ solve_of words
-unfolding solve_of
+none_of_few : (words : List (List ℕ)) → length words < 4 → (length words ≡ 2 → ⊥) → None ≡ solve_command words
+unfolding solve_command
 none_of_few [] h other = refl
 none_of_few (a ∷ []) h other = refl
 none_of_few (a ∷ b ∷ []) h other = absurd (other refl)
 none_of_few (a ∷ b ∷ c ∷ []) h other = refl
 none_of_few (a ∷ b ∷ c ∷ d ∷ rest) h other = absurd (omega (arith, h))
 
-none_of_one : (words : List (List ℕ)) → length words < 2 → None ≡ duals_of words
-unfolding duals_of
+none_of_one : (words : List (List ℕ)) → length words < 2 → None ≡ duals_command words
+unfolding duals_command
 none_of_one [] h = refl
 none_of_one (a ∷ []) h = refl
 none_of_one (a ∷ b ∷ rest) h = absurd (omega (arith, h))
 
-none_of_two : (words : List (List ℕ)) → length words < 3 → None ≡ check_of words
-unfolding check_of
+none_of_two : (words : List (List ℕ)) → length words < 3 → None ≡ check_command words
+unfolding check_command
 none_of_two [] h = refl
 none_of_two (a ∷ []) h = refl
 none_of_two (a ∷ b ∷ []) h = refl
@@ -41,11 +41,11 @@ none_of_two (a ∷ b ∷ c ∷ rest) h = absurd (omega (arith, h))
 pub no_options : {X : Type 0} (f : X → List ℕ) (words : List X) → 3 ≤ length words → None ≡ options_of (map f words)
 no_options f words h = none_of_many (map f words) (many f words 3 h)
 
-pub no_solve : {X : Type 0} (f : X → List ℕ) (words : List X) → length words < 4 → (length words ≡ 2 → ⊥) → None ≡ solve_of (map f words)
+pub no_solve : {X : Type 0} (f : X → List ℕ) (words : List X) → length words < 4 → (length words ≡ 2 → ⊥) → None ≡ solve_command (map f words)
 no_solve f words h other = none_of_few (map f words) (few f words 4 h) (λ two. let same : length words ≡ 2 = omega (arith, two, length-map words f) in other same)
 
-pub no_duals : {X : Type 0} (f : X → List ℕ) (words : List X) → length words < 2 → None ≡ duals_of (map f words)
+pub no_duals : {X : Type 0} (f : X → List ℕ) (words : List X) → length words < 2 → None ≡ duals_command (map f words)
 no_duals f words h = none_of_one (map f words) (few f words 2 h)
 
-pub no_check : {X : Type 0} (f : X → List ℕ) (words : List X) → length words < 3 → None ≡ check_of (map f words)
+pub no_check : {X : Type 0} (f : X → List ℕ) (words : List X) → length words < 3 → None ≡ check_command (map f words)
 no_check f words h = none_of_two (map f words) (few f words 3 h)

@@ -35,7 +35,8 @@ use Rattle.dualoc_cli.specs.declared.reply.Reply.TheVariants.{NoCommand, Instanc
 use Rattle.dualoc_cli.specs.Command.{Command, OnFile, InstanceFile, ResultFiles, Job, SolveShort, SolveLong, ShowDuals, Check, command_of, meaning_in}
 use Rattle.dualoc_cli.specs.Status.{when_cut}
 use Rattle.dualoc_cli.specs.Reply.{status_of, status_of_claim, text_of}
-use Rattle.dualoc_cli.specs.Due.{Run, AsksFor, HasTask, InstanceFails, CertificateFails, HasManySites, HasLargeBudget, HasSearch, IsStored, IsEnd, IsUnwritten, HasFault, IsAnswered, IsCause, IsPrinted, Ends, Keeps, Leaves, ChangesNoFile, IsRefusal, IsResult, IsSettled, IsTold, IsHindered, MemoryRanOut, InstanceFailed, CertificateFailed, ResultFailed, OutputFailed, EndsAs, EndsSearch, DeservesYes, IsChecked, IsComplete, Runs, max_budget, budget_in}
+use Rattle.dualoc_cli.specs.Due.{Run, AsksFor, HasTask, InstanceFails, CertificateFails, HasManySites, HasLargeBudget, HasSearch, IsSearched, IsEnd, IsUnwritten, HasFileFault, IsAnswered, IsCause, IsPrinted, Ends, KeepsFiles, Leaves, ChangesNoFile, IsRefusalStatus, IsResult, IsSettledAtStart, IsTold, IsHindered, MemoryRanOut, InstanceFailed, CertificateFailed, ResultFailed, OutputFailed, EndsAs, EndsSearch, DeservesYes, IsChecked, IsComplete, Runs}
+use Rattle.tree_search.specs.Budget.{max_budget, budget_in}
 
 -- a status after a write that failed is no result
 not_result : (due : Status) → IsResult (when_cut due) → ⊥
@@ -51,7 +52,7 @@ not_result TooLarge h = h
 not_result NoMemory h = h
 
 -- a refusal whose text was cut is a refusal
-uncut_refusal : (due : Status) → IsRefusal (when_cut due) → IsRefusal due
+uncut_refusal : (due : Status) → IsRefusalStatus (when_cut due) → IsRefusalStatus due
 uncut_refusal Done h = absurd h
 uncut_refusal Infeasible h = absurd h
 uncut_refusal Bracket h = absurd h
@@ -184,7 +185,7 @@ module _ (r : Run) where
   duals_are_due : (I : Instance) → HasTask r ShowDuals I → IsDue (Exactly Done)
   duals_are_due I task = task_is_due ShowDuals I (Exactly Done) task refl
 
-  fault_is_due : (fault : FileFault) → HasFault r fault → IsDue (Exactly BadInput)
+  fault_is_due : (fault : FileFault) → HasFileFault r fault → IsDue (Exactly BadInput)
   fault_is_due fault a =
       inr (a.file, a.job, a.bytes, a.asked, inr (a.within, subst (λ m. Meant a.job m (Exactly BadInput)) (sym a.means) refl))
 
@@ -197,19 +198,19 @@ module _ (r : Run) where
       (certificate_text I cert, held, (Ok (Yes cert.claim), accepted_yes_within MAX_CERTIFICATE_BYTES I cert (task_valid r (Check name) I task) deserved.accepted deserved.small deserved.within, refl))
 
   -- the status of a claim is one that a search ends with; its tree is small, and with a bracket so is its budget
-  claim_suits : (I : Instance) (budget : ℕ) (claim : Claim) (plan : Option Plan) (tree : Tree) → IsEnd I budget claim plan tree
-      → nodes_of tree + 1 ≤ 2 ^ (most_decisions I + 1) → Suits (Search I budget) (status_of_claim claim)
-  claim_suits I budget (claimed.Optimal cost) plan tree end small = inl refl
-  claim_suits I budget claimed.Infeasible plan tree end small = inr (inl refl)
-  claim_suits I budget (claimed.Bracket low high) plan tree end small = let spent = end.spent in inr (inr (refl, omega (arith, small, spent)))
+  claim_suits : (I : Instance) (budget : ℕ) (claim : Claim) (plan : Option Plan) (tree : Tree) (made : ℕ) → IsEnd I budget claim plan tree made
+      → nodes_of tree ≡ 1 + made → nodes_of tree + 1 ≤ 2 ^ (most_decisions I + 1) → Suits (Search I budget) (status_of_claim claim)
+  claim_suits I budget (claimed.Optimal cost) plan tree made end nodes small = inl refl
+  claim_suits I budget claimed.Infeasible plan tree made end nodes small = inr (inl refl)
+  claim_suits I budget (claimed.Bracket low high) plan tree made end nodes small = let spent = end.spent in inr (inr (refl, omega (arith, small, nodes, spent)))
 
-  stored_suits : (claim : Claim) (nodes budget : ℕ) (a : IsStored r claim nodes budget) → Suits (Search a.instance budget) (status_of_claim claim)
+  stored_suits : (claim : Claim) (nodes budget : ℕ) (a : IsSearched r claim nodes budget) → Suits (Search a.instance budget) (status_of_claim claim)
   stored_suits claim nodes budget a =
       let found = a.result.found in
-      claim_suits a.instance budget claim a.cert.plan a.cert.tree (subst (λ c. IsEnd a.instance budget c a.cert.plan a.cert.tree) a.claims found.end)
-      (tree_small a.instance a.cert.tree found.grown)
+      claim_suits a.instance budget claim a.cert.plan a.cert.tree found.made (subst (λ c. IsEnd a.instance budget c a.cert.plan a.cert.tree found.made) a.claims found.end)
+      found.nodes_are (tree_small a.instance a.cert.tree found.grown)
 
-  stored_is_due : (claim : Claim) (nodes budget : ℕ) (a : IsStored r claim nodes budget) → IsDue (Search a.instance budget)
+  stored_is_due : (claim : Claim) (nodes budget : ℕ) (a : IsSearched r claim nodes budget) → IsDue (Search a.instance budget)
   stored_is_due claim nodes budget a =
       let asked = a.result.asked in
       subst (λ b. IsDue (Search a.instance b)) (sym asked.in_force)
@@ -238,7 +239,7 @@ module _ (r : Run) where
   cause_is_due (Judged (No line why)) cause = inl (Exactly CheckNo, answer_is_due (Ok (No line why)) cause, refl)
 
   -- a reply that is settled has its own status due
-  settled_is_due : (reply : Reply) → IsCause r reply → IsSettled reply → IsDue (Exactly (status_of reply))
+  settled_is_due : (reply : Reply) → IsCause r reply → IsSettledAtStart reply → IsDue (Exactly (status_of reply))
   unfolding status_in
   settled_is_due NoCommand cause sure = inl (cause, refl)
   settled_is_due InstanceUnread cause sure = absurd sure
@@ -338,7 +339,7 @@ module _ (r : Run) where
           | inr front ↦ elim front.status_is [ inl cut ↦ inr (MemoryRanOut cut.1) | inr ran ↦ inr (MemoryRanOut ran) ]
         ]
 
-    exact : (status : Status) → Ends r status → (reply : Reply) → IsCause r reply → IsSettled reply → EndsAs r (status_of reply) status
+    exact : (status : Status) → Ends r status → (reply : Reply) → IsCause r reply → IsSettledAtStart reply → EndsAs r (status_of reply) status
     exact status ends reply cause sure = ends_as_due (Exactly (status_of reply)) status (settled_is_due reply cause sure) ends
 
     search_ends : (I : Instance) (budget : ℕ) (status : Status) → EndsDue (Search I budget) status → EndsSearch r I budget status
@@ -410,22 +411,22 @@ module _ (r : Run) where
       ])
 
   -- a run that ends with a refusal has answered so
-  untouched : (status : Status) → Ends r status → IsRefusal status → ChangesNoFile r
+  untouched : (status : Status) → Ends r status → IsRefusalStatus status → ChangesNoFile r
   untouched status (inl a) h =
       elim a.printed [
-        | inl whole ↦ a.untouched (subst IsRefusal whole.status_is h)
+        | inl whole ↦ a.untouched (subst IsRefusalStatus whole.status_is h)
         | inr front ↦
             elim front.status_is [
-              | inl cut ↦ a.untouched (uncut_refusal (status_of a.reply) (subst IsRefusal cut.1 h))
-              | inr out ↦ absurd (subst IsRefusal out h)
+              | inl cut ↦ a.untouched (uncut_refusal (status_of a.reply) (subst IsRefusalStatus cut.1 h))
+              | inr out ↦ absurd (subst IsRefusalStatus out h)
             ]
       ]
-  untouched status (inr (inl whole)) h = absurd (subst IsRefusal whole.status_is h)
+  untouched status (inr (inl whole)) h = absurd (subst IsRefusalStatus whole.status_is h)
   untouched status (inr (inr front)) h =
-      elim front.status_is [ inl cut ↦ absurd (subst IsRefusal cut.1 h) | inr out ↦ absurd (subst IsRefusal out h) ]
+      elim front.status_is [ inl cut ↦ absurd (subst IsRefusalStatus cut.1 h) | inr out ↦ absurd (subst IsRefusalStatus out h) ]
 
   -- a reply that has its cause was printed, or memory ran out before its text was there
-  pub ended : (status : Status) (reply : Reply) → IsCause r reply → (IsRefusal (status_of reply) → ChangesNoFile r)
+  pub ended : (status : Status) (reply : Reply) → IsCause r reply → (IsRefusalStatus (status_of reply) → ChangesNoFile r)
       → IsPrinted (text_of reply) (status_of reply) status r.before.output r.after.output ⊎ IsPrinted (codes "no memory\n") NoMemory status r.before.output r.after.output
       → Ends r status
   ended status reply cause same (inl printed) = inl (record { reply = reply; cause = cause; untouched = same; printed = printed })

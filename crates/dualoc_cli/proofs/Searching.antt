@@ -1,8 +1,8 @@
 -- What a search may start from, and what it comes to.
 use Rattle.std.proofs.Common.{◌≡◌, ◌↔◌, ℕ, zero, suc, ◌+◌, ◌*◌, ◌/◌, ◌^◌, ◌<◌, ◌≤◌, ◌==◌, Bool, true, false, List, [], ◌∷◌, map, length, min, get_or, Option, None, Some, refl, sym, ap, subst, ◌∙◌, inl, inr, arith}
-use Rattle.std.specs.Prelude.{All, IfSome, IsTrue, fold, filter, find, sum_by, unwrap_or, option_map, nat_lt, slice_get}
-use Rattle.std.proofs.Math.Nat.{min-le_left, div-mul-le_self, le-div_iff_mul-le}
-use Rattle.std.proofs.lemmas.Bool.{cond_both, cases_lt}
+use Rattle.std.specs.Prelude.{All, Result, Ok, Err, IfOk, IfSome, IsTrue, fold, filter, find, sum_by, unwrap_or, option_map, nat_lt, slice_get, if◌then◌else◌}
+use Rattle.std.proofs.Math.Nat.{min-le_left, pow-le-pow_right}
+use Rattle.std.proofs.lemmas.Bool.{cond_both}
 use Rattle.std.proofs.lemmas.Nat.{mul-le}
 use Rattle.std.proofs.lemmas.List.{length-map}
 use Rattle.std.proofs.lemmas.List.Sums.{sum_by-le}
@@ -24,34 +24,19 @@ use Rattle.tree_search.specs.Grown.{IsGrownFrom}
 use Rattle.tree_search.proofs.Decided.{grown_within}
 use Rattle.tree_search.specs.declared.answer.Answer.{Answer}
 use Rattle.tree_search.specs.declared.answer.Answer.TheVariants.{Optimal, Infeasible, Bracket}
-use Rattle.tree_search.specs.declared.limits.TheConstants.{MAX_DUALS}
+use Rattle.tree_search.specs.Made.{has_cap}
+use Rattle.tree_search.specs.Budget.{max_budget, budget_in}
+use Rattle.tree_search.specs.declared.budget.TheConstants.{DEFAULT_BUDGET}
+use Rattle.tree_search.proofs.Budgets.{budget_within}
 use Rattle.certificate_lines.specs.Follow.{HasSmallCosts}
-use Rattle.certificate_lines.specs.Text.{certificate_text}
-use Rattle.certificate_lines.specs.declared.limits.TheConstants.{MAX_CERTIFICATE_BYTES}
-use Rattle.dualoc_cli.specs.declared.limits.TheConstants.{DEFAULT_BUDGET}
+use Rattle.certificate_lines.specs.Length.{HasFewNodes}
+use Rattle.certificate_lines.proofs.Lengths.{short_text}
+use Rattle.certificate_check.proofs.Judged.{has_text}
 use Rattle.dualoc_cli.specs.Command.{ResultFiles, SolveLong}
-use Rattle.dualoc_cli.specs.Due.{Run, HasTask, HasLargeBudget, IsEnd, IsFound, max_budget, budget_in}
-use Rattle.dualoc_cli.proofs.Lengths.{short_text}
-
--- the greatest number whose product is within the limit is the quotient
-pub is_quotient : (q n d : ℕ) → q * d ≤ n → n < (q + 1) * d → q ≡ n / d
-is_quotient q n zero within greatest = absurd (omega (arith, greatest))
-is_quotient q n (suc e) within greatest =
-    let at_least : q ≤ n / suc e = (le-div_iff_mul-le {k = suc e} {x = q} {y = n} (omega arith)).1 within in
-    let at_most : n / suc e * suc e ≤ n = div-mul-le_self n (suc e) in
-    elim (cases_lt q (n / suc e)) [
-      | inl more ↦
-          let product : (q + 1) * suc e ≤ (n / suc e) * suc e = mul-le (q + 1) (suc e) (n / suc e) (suc e) (omega (arith, more)) (omega arith) in
-          absurd (omega (arith, product, at_most, greatest))
-      | inr none ↦ omega (arith, at_least, none)
-    ]
-
--- a budget up to the greatest is within the search's limit
-pub budget_within : (I : Instance) (budget : ℕ) → budget ≤ max_budget I → IsWithin I budget
-budget_within I budget small =
-    let d = length I.sites + length I.customers in
-    let product : budget * d ≤ (MAX_DUALS / d) * d = mul-le budget d (MAX_DUALS / d) d small (omega arith) in
-    omega (arith, product, div-mul-le_self MAX_DUALS d)
+use Rattle.shelf_port.specs.Ports.{ShelfState}
+use Rattle.dualoc_cli.specs.declared.reply.Reply.{Reply}
+use Rattle.dualoc_cli.specs.Due.{Run, HasTask, HasLargeBudget, HasSearch, IsEnd, IsFound, IsCause}
+use Rattle.dualoc_cli.specs.Step.{Covers}
 
 -- a leaf of zeros at scale 1 doesn't close without a target
 open_at_zeros : (I : Instance) → Closes I [] (zeros I 1) None → ⊥
@@ -75,8 +60,21 @@ at_zeros_told I = record { len = refl; each = by }
 pub tree_small : (I : Instance) (tree : Tree) → IsGrownFrom I None (leaf_of I (zeros I 1)) tree → nodes_of tree + 1 ≤ 2 ^ (most_decisions I + 1)
 tree_small I tree grown = omega (arith, grown_within I (leaf_of I (zeros I 1)) None tree (false ∷ []) (at_zeros_told I) grown)
 
+-- of one site and one customer it decides on the site and the lane at most
+few_decisions : (capped : Bool) (m n : ℕ) → m ≤ 1 → n ≤ 1 → (if capped then m + m * n else m) ≤ 2
+few_decisions true m n sites customers = omega (arith, sites, customers, mul-le m n 1 1 sites customers)
+few_decisions false m n sites customers = omega (arith, sites)
+
+tree_tiny : (I : Instance) (tree : Tree) → IsValid I → IsGrownFrom I None (leaf_of I (zeros I 1)) tree → length I.sites + length I.customers ≤ 2 → nodes_of tree ≤ 7
+tree_tiny I tree valid grown two =
+    let m = length I.sites in
+    let n = length I.customers in
+    let few : most_decisions I ≤ 2 = few_decisions (has_cap I) m n (omega (arith, two, valid.sizes.some_customer)) (omega (arith, two, valid.sizes.some_site)) in
+    let eight : 2 ^ (most_decisions I + 1) ≤ 2 ^ 3 = pow-le-pow_right {n = 2} (omega arith) {i = most_decisions I + 1} {j = 3} (omega (arith, few)) in
+    omega (arith, tree_small I tree grown, eight)
+
 -- A search may start from there.
-module _ (I : Instance) (budget : ℕ) (small : budget ≤ max_budget I) where
+module _ (I : Instance) (budget : ℕ) (within : IsWithin I budget) where
   at_zeros : IsSearchStart I (leaf_of I (zeros I 1)) (false ∷ []) None budget
   at_zeros = record {
     stands = record { sites = refl; customers = refl };
@@ -84,7 +82,7 @@ module _ (I : Instance) (budget : ℕ) (small : budget ≤ max_budget I) where
     few = inr refl;
     feasible = tt;
     each_told = at_zeros_told I;
-    within = budget_within I budget small;
+    within = within;
   }
 
   pub start : (tree : Tree) → tree ≡ leaf_of I (zeros I 1) → IsSearchStart I tree (false ∷ []) None budget
@@ -128,20 +126,21 @@ module _ (I : Instance) (valid : IsValid I) where
     frugal : nodes_of (tree_in a) ≤ budget + 1
     frugal = omega (arith, nodes_are, is.within)
 
-    few : nodes_of (tree_in a) * (length I.sites + length I.customers) ≤ 20000000 + (length I.sites + length I.customers)
-    few =
+    few_nodes : HasFewNodes I (tree_in a)
+    few_nodes =
         let d = length I.sites + length I.customers in
         let product : nodes_of (tree_in a) * d ≤ (budget + 1) * d = mul-le (nodes_of (tree_in a)) d (budget + 1) d frugal (omega arith) in
-        let room : budget * d ≤ MAX_DUALS = budget_within I budget small in
-        omega (arith, product, room)
+        record { numbers = omega (arith, product, budget_within I budget small, valid.sizes.few_sites, valid.sizes.few_customers); single = tree_tiny I (tree_in a) valid is.grown }
 
-  found_by : (budget : ℕ) → budget ≤ max_budget I → (a : Answer) → IsAnswerTo I (leaf_of I (zeros I 1)) None budget a → HasSmallCosts (claim_in I a) → IsEnd I budget (claim_in I a) (plan_in a) (tree_in a) → IsFound I budget (certificate_in I a)
+  found_by : (budget : ℕ) → budget ≤ max_budget I → (a : Answer) → IsAnswerTo I (leaf_of I (zeros I 1)) None budget a → HasSmallCosts (claim_in I a) → IsEnd I budget (claim_in I a) (plan_in a) (tree_in a) (made_in a) → IsFound I budget (certificate_in I a)
   found_by budget small a is costs end =
       record {
         holds = claim_holds I valid (claim_in I a) (plan_in a) (tree_in a) is.accepted.shows;
-        deserved = record { accepted = is.accepted; small = costs; within = short_text I (certificate_in I a) valid is.accepted costs (few budget small a is) };
+        deserved = record { accepted = is.accepted; small = costs; within = short_text I (certificate_in I a) valid (has_text I (certificate_in I a) is.accepted costs) (few_nodes budget small a is) };
         grown = is.grown;
-        frugal = frugal budget small a is;
+        made = made_in a;
+        nodes_are = is.made;
+        within = is.within;
         sought = is.sought;
         end = end;
       }
@@ -155,10 +154,7 @@ module _ (I : Instance) (valid : IsValid I) where
   found_at_zeros budget small (Optimal plan cost tree made) is = found_by budget small (Optimal plan cost tree made) is (claimed_small plan cost is.accepted.shows.0) tt
   found_at_zeros budget small (Infeasible tree made) is = found_by budget small (Infeasible tree made) is tt tt
   found_at_zeros budget small (Bracket low plan tree made) is =
-      let cause = is.cause in
-      let nodes : nodes_of tree ≡ 1 + made = is.made in
-      found_by budget small (Bracket low plan tree made) is (bracket_small low plan tree made cause.shown is.accepted)
-      (record { spent = omega (arith, nodes, cause.spent); unfinished = cause.unfinished; shown = cause.shown; planless = cause.planless })
+      let cause = is.cause in found_by budget small (Bracket low plan tree made) is (bracket_small low plan tree made cause.shown is.accepted) cause
 
   pub found : (budget : ℕ) → budget ≤ max_budget I → (tree : Tree) → tree ≡ leaf_of I (zeros I 1) → (a : Answer) → IsAnswerTo I tree None budget a
       → (cert : Certificate) → cert ≡ certificate_in I a → IsFound I budget cert
@@ -176,3 +172,10 @@ feasible_plan I old handed budget (Bracket low (Some P) tree made) is = is.accep
 pub large_given : (r : Run) (into : ResultFiles) (given : Option ℕ) (I : Instance) → HasTask r (SolveLong into given) I → max_budget I < budget_in I given → HasLargeBudget r
 large_given r into None I task large = absurd (omega (arith, large, min-le_left (max_budget I) DEFAULT_BUDGET))
 large_given r into (Some budget) I task large = record { instance = I; into = into; budget = budget; task = task; large = large }
+
+-- a reply has its cause for each run that asks for a search with this budget in force, and so for each that asks for the task
+pub asked_cause : {E : Type 0} (result : Result Reply E) (into : ResultFiles) (given : Option ℕ) (I : Instance) (budget : ℕ) (old new : ShelfState) → budget ≡ budget_in I given → budget ≤ max_budget I
+    → IfOk result (λ reply. (r : Run) → HasSearch r into I budget → Covers r old new → IsCause r reply)
+    → IfOk result (λ reply. (r : Run) → HasTask r (SolveLong into given) I → Covers r old new → IsCause r reply)
+asked_cause (Ok reply) into given I budget old new in_force within cause = λ r task part. cause r (record { given = given; task = task; in_force = in_force; within = within }) part
+asked_cause (Err fault) into given I budget old new in_force within cause = tt

@@ -15,7 +15,7 @@ use Rattle.location_terms.specs.Certificate.{Certificate}
 use Rattle.report.specs.PlanText.{plan_text_of}
 use Rattle.certificate_lines.specs.Text.{certificate_text}
 use Rattle.dualoc_cli.specs.Command.{ResultFiles}
-use Rattle.dualoc_cli.specs.Due.{Run, HasSearch, IsFound, HasResult, IsStored, IsUnwritten, HasBegun, IsPlanBegun, IsCertificateBegun}
+use Rattle.dualoc_cli.specs.Due.{Run, HasSearch, IsFound, HasResult, IsSearched, IsUnwritten, HasBegun, IsPlanBegun, IsCertificateBegun}
 use Rattle.dualoc_cli.specs.Step.{Covers}
 use Rattle.dualoc_cli.proofs.Causes.{rose_over}
 use Rattle.dualoc_cli.proofs.Apart.{apart}
@@ -84,7 +84,7 @@ module _ (r : Run) (into : ResultFiles) (I : Instance) (budget : ℕ) (cert : Ce
       certificate_held : MayHold r.after.shelf.files into.certificate (certificate_text I cert)
       certificate_held = subst (λ f. MayHold f into.certificate (certificate_text I cert)) after_is (held_now mid.files into.certificate (certificate_text I cert))
 
-      pub stored : (nodes : ℕ) → nodes ≡ nodes_of cert.tree → IsStored r cert.claim nodes budget
+      pub stored : (nodes : ℕ) → nodes ≡ nodes_of cert.tree → IsSearched r cert.claim nodes budget
       stored nodes count =
           record {
             into = into;

@@ -122,24 +122,24 @@ long_of form name into options =
     if are_names (name ∷ into.plan ∷ into.certificate ∷ []) then option_and_then (λ o. job_on form name (SolveLong into o.budget) o.capacity) options else None
 
 -- the words behind `solve`
-unfoldable pub solve_of : List (List ℕ) → Option Command
-solve_of (form ∷ file ∷ []) = short_of form file
-solve_of (form ∷ file ∷ plan ∷ certificate ∷ options) = long_of form file (into_files plan certificate) (options_of options)
-solve_of _ = None
+unfoldable pub solve_command : List (List ℕ) → Option Command
+solve_command (form ∷ file ∷ []) = short_of form file
+solve_command (form ∷ file ∷ plan ∷ certificate ∷ options) = long_of form file (into_files plan certificate) (options_of options)
+solve_command _ = None
 
 -- the words behind `duals`
-unfoldable pub duals_of : List (List ℕ) → Option Command
-duals_of (form ∷ file ∷ options) = if are_names (file ∷ []) then option_and_then (unbudgeted form file ShowDuals) (options_of options) else None
-duals_of _ = None
+unfoldable pub duals_command : List (List ℕ) → Option Command
+duals_command (form ∷ file ∷ options) = if are_names (file ∷ []) then option_and_then (unbudgeted form file ShowDuals) (options_of options) else None
+duals_command _ = None
 
 -- the words behind `check`
-unfoldable pub check_of : List (List ℕ) → Option Command
-check_of (form ∷ file ∷ certificate ∷ options) =
+unfoldable pub check_command : List (List ℕ) → Option Command
+check_command (form ∷ file ∷ certificate ∷ options) =
     if are_names (file ∷ certificate ∷ []) then option_and_then (unbudgeted form file (Check certificate)) (options_of options) else None
-check_of _ = None
+check_command _ = None
 
 -- the command of the words, if they are those of one
 abbrev pub command_of : List (List ℕ) → Option Command
 command_of [] = None
 command_of (verb ∷ words) =
-    if bytes_eq verb (codes "solve") then solve_of words else (if bytes_eq verb (codes "duals") then duals_of words else (if bytes_eq verb (codes "check") then check_of words else None))
+    if bytes_eq verb (codes "solve") then solve_command words else (if bytes_eq verb (codes "duals") then duals_command words else (if bytes_eq verb (codes "check") then check_command words else None))

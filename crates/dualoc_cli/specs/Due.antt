@@ -1,7 +1,7 @@
 -- The contract of `run` is `Runs`, at the end of this page: each reply has its cause, the run ends with a reply, or for want of
 -- memory, and the output gained its text. What a file holds is said as far as the shelf tells it: of a shelf that tells nothing,
 -- as the host's, only that there are such bytes. A count that rose is one that is greater or stands at the last value of its counter.
-use Rattle.std.specs.Prelude.{◌≡◌, ◌⊎◌, ℕ, ◌+◌, ◌/◌, ◌^◌, min, ◌<◌, ◌≤◌, List, [], length, take, Option, None, Some, IsSome, Ok, Err, codes, pos, ◌≤ℤ◌}
+use Rattle.std.specs.Prelude.{◌≡◌, ◌⊎◌, ℕ, ◌+◌, ◌^◌, ◌<◌, ◌≤◌, List, [], length, take, Option, None, Some, Ok, Err, codes, pos, ◌≤ℤ◌}
 use Rattle.shelf_port.specs.Files.{Files, MayHold, LeavesPrefix, with_file, Rose}
 use Rattle.shelf_port.specs.Streams.{with_back, RefusedLast}
 use Rattle.shelf_port.specs.Ports.{Ports, SinkState}
@@ -10,18 +10,17 @@ use Rattle.location_terms.specs.Plan.{Plan, IsFeasible, cost_of}
 use Rattle.location_terms.specs.Optimal.{IsOptimal, ClaimHolds}
 use Rattle.location_terms.specs.Bound.{Duals, v_at, slack_of, bound_of}
 use Rattle.location_terms.specs.Certificate.{Certificate, IsAccepted}
-use Rattle.location_terms.specs.Tree.{Tree, nodes_of, low_of}
+use Rattle.location_terms.specs.Tree.{Tree, nodes_of}
 use Rattle.location_terms.specs.declared.claim.Claim.{Claim}
 use Rattle.location_terms.specs.declared.claim.Claim.TheVariants as claimed
 use Rattle.fixed_cost.specs.declared.fault.FileFault.{FileFault}
 use Rattle.set_walk.specs.declared.TheConstants.{MAX_WALK_SITES}
 use Rattle.dual_value.specs.Zeros.{zeros}
 use Rattle.dual_ascent.specs.Ascent.{IsAscended, IsBlocked}
-use Rattle.plan_search.specs.InBox.{HasNoCaps}
 use Rattle.branch_tree.specs.Made.{leaf_of}
 use Rattle.tree_search.specs.Grown.{IsGrownFrom, PlansWereSought}
-use Rattle.tree_search.specs.Answer.{HasFreeCount, HasOpenLeaf, most_decisions}
-use Rattle.tree_search.specs.declared.limits.TheConstants.{MAX_DUALS}
+use Rattle.tree_search.specs.Answer.{IsBracketCause, most_decisions}
+use Rattle.tree_search.specs.Budget.{max_budget, budget_in}
 use Rattle.report.specs.PlanText.{plan_text_of}
 use Rattle.certificate_lines.specs.Text.{certificate_text}
 use Rattle.certificate_lines.specs.Follow.{HasSmallCosts}
@@ -30,7 +29,6 @@ use Rattle.certificate_lines.specs.declared.fault.CertFault.TheVariants.{Text, T
 use Rattle.certificate_check.specs.declared.verdict.Verdict.TheVariants.{Yes, No}
 use Rattle.certificate_check.specs.Verdict.{Answer, IsAnswer}
 use Rattle.fixed_cost.specs.declared.limits.TheConstants.{MAX_INSTANCE_BYTES}
-use Rattle.dualoc_cli.specs.declared.limits.TheConstants.{DEFAULT_BUDGET}
 use Rattle.dualoc_cli.specs.declared.status.Status.{Status}
 use Rattle.dualoc_cli.specs.declared.status.Status.TheVariants.{Done, Infeasible, Bracket, CheckNo, Usage, BadInput, ReadFault, WriteFault, TooLarge, NoMemory}
 use Rattle.dualoc_cli.specs.declared.reply.Reply.{Reply}
@@ -79,7 +77,7 @@ pub record IsTooLong (r : Run) : Type 0 where
   pub beyond : MAX_INSTANCE_BYTES < length bytes
 
 -- this is the first fault of the instance's file
-pub record HasFault (r : Run) (fault : FileFault) : Type 0 where
+pub record HasFileFault (r : Run) (fault : FileFault) : Type 0 where
   pub file : InstanceFile
   pub job : Job
   pub bytes : List ℕ
@@ -114,15 +112,6 @@ pub record DeservesYes (I : Instance) (cert : Certificate) : Type 0 where
   pub small : HasSmallCosts cert.claim
   pub within : length (certificate_text I cert) ≤ MAX_CERTIFICATE_BYTES
 
--- the greatest budget of nodes for an instance: 20,000,000 over the number of its sites and customers, rounded down
-abbrev pub max_budget : Instance → ℕ
-max_budget I = MAX_DUALS / (length I.sites + length I.customers)
-
--- the budget in force
-abbrev pub budget_in : Instance → Option ℕ → ℕ
-budget_in I None = min (max_budget I) DEFAULT_BUDGET
-budget_in I (Some budget) = budget
-
 -- an instance is to be solved with a budget past its greatest
 pub record HasLargeBudget (r : Run) : Type 0 where
   pub instance : Instance
@@ -138,30 +127,24 @@ pub record HasSearch (r : Run) (into : ResultFiles) (I : Instance) (budget : ℕ
   pub in_force : budget ≡ budget_in I given
   pub within : budget ≤ max_budget I
 
--- Why a search ends with a bracket: its budget is spent, since of its nodes all but the first were made by splits, and one more split would make two more than it
--- allows; and a leaf is open. The low end is the one that its tree shows. A plan is missing only where some site has a capacity, a number of sites has to be open, or not
--- all of them may be; and then packing on a leaf's tight sites gave none at any leaf of scale 1 or more, which is what `sought`, below, comes to without a plan.
-pub record IsCutShort (I : Instance) (budget low : ℕ) (plan : Option Plan) (tree : Tree) : Type 0 where
-  pub spent : budget < nodes_of tree + 1
-  pub unfinished : HasOpenLeaf I tree plan
-  pub shown : low ≡ low_of I tree
-  pub planless : HasNoCaps I → HasFreeCount I → IsSome plan
-
-abbrev pub IsEnd : Instance → ℕ → Claim → Option Plan → Tree → Type 0
-IsEnd I budget (claimed.Optimal cost) plan tree = Unit {0}
-IsEnd I budget claimed.Infeasible plan tree = Unit {0}
-IsEnd I budget (claimed.Bracket low high) plan tree = IsCutShort I budget low plan tree
+-- a search ends with a bracket only for the cause that the search itself names: its budget is spent, and a leaf is open; made is how many nodes its splits made
+abbrev pub IsEnd : Instance → ℕ → Claim → Option Plan → Tree → ℕ → Type 0
+IsEnd I budget (claimed.Optimal cost) plan tree made = Unit {0}
+IsEnd I budget claimed.Infeasible plan tree made = Unit {0}
+IsEnd I budget (claimed.Bracket low high) plan tree made = IsBracketCause I budget low plan tree made
 
 -- What a search of the instance with this budget comes to: a certificate of its claim, with its plan and its tree. The claim holds, and the checker says yes to the
--- certificate's text. The tree grew from one leaf of zeros, without a plan to begin with; its splits made no more nodes than the budget, so with the first leaf it has at
--- most one more; and the plan costs no more than those that packing gives at its leaves.
+-- certificate's text. The tree grew from one leaf of zeros, without a plan to begin with; all nodes but the first were made by splits, no more than the budget; and the plan
+-- costs no more than those that packing gives at its leaves. So where a bracket is without a plan, packing gave none at any leaf of scale 1 or more.
 pub record IsFound (I : Instance) (budget : ℕ) (cert : Certificate) : Type 0 where
   pub holds : ClaimHolds I cert.claim cert.plan
   pub deserved : DeservesYes I cert
   pub grown : IsGrownFrom I None (leaf_of I (zeros I 1)) cert.tree
-  pub frugal : nodes_of cert.tree ≤ budget + 1
+  pub made : ℕ
+  pub nodes_are : nodes_of cert.tree ≡ 1 + made
+  pub within : made ≤ budget
   pub sought : PlansWereSought I cert.tree cert.plan
-  pub end : IsEnd I budget cert.claim cert.plan cert.tree
+  pub end : IsEnd I budget cert.claim cert.plan cert.tree made
 
 -- a search that the words ask for comes to this
 pub record HasResult (r : Run) (into : ResultFiles) (I : Instance) (budget : ℕ) (cert : Certificate) : Type 0 where
@@ -170,7 +153,7 @@ pub record HasResult (r : Run) (into : ResultFiles) (I : Instance) (budget : ℕ
 
 -- A search came to this claim, with a tree of so many nodes, and both files hold their whole texts. A certificate's text is that of no other certificate (the law
 -- `one_text` of certificate_text), so the tree is the one that the file spells.
-pub record IsStored (r : Run) (claim : Claim) (nodes budget : ℕ) : Type 0 where
+pub record IsSearched (r : Run) (claim : Claim) (nodes budget : ℕ) : Type 0 where
   pub into : ResultFiles
   pub instance : Instance
   pub cert : Certificate
@@ -242,12 +225,12 @@ abbrev pub IsCause : Run → Reply → Type 0
 IsCause r NoCommand = command_of r.words ≡ None
 IsCause r InstanceUnread = InstanceFails r
 IsCause r LongInstance = IsTooLong r
-IsCause r (Faulty fault) = HasFault r fault
+IsCause r (Faulty fault) = HasFileFault r fault
 IsCause r ManySites = HasManySites r
 IsCause r (Optimum I P cost) = IsSolved r I P cost
 IsCause r LargeBudget = HasLargeBudget r
 IsCause r Unwritten = IsUnwritten r
-IsCause r (Searched claim nodes budget) = IsStored r claim nodes budget
+IsCause r (Searched claim nodes budget) = IsSearched r claim nodes budget
 IsCause r (Ascent I d) = IsRaised r I d
 IsCause r CertificateUnread = CertificateFails r
 IsCause r LongCertificate = IsAnswered r (Err TooLong)
@@ -279,24 +262,24 @@ abbrev pub ChangesNoFile : Run → Type 0
 ChangesNoFile r = r.after.shelf.files ≡ r.before.shelf.files
 
 -- the words, the instance or a number of it are refused, or a file can't be read
-abbrev pub IsRefusal : Status → Type 0
-IsRefusal Usage = Unit {0}
-IsRefusal BadInput = Unit {0}
-IsRefusal ReadFault = Unit {0}
-IsRefusal TooLarge = Unit {0}
-IsRefusal status = ⊥
+abbrev pub IsRefusalStatus : Status → Type 0
+IsRefusalStatus Usage = Unit {0}
+IsRefusalStatus BadInput = Unit {0}
+IsRefusalStatus ReadFault = Unit {0}
+IsRefusalStatus TooLarge = Unit {0}
+IsRefusalStatus status = ⊥
 
 -- a run ends with a reply that has its cause
-pub record Answers (r : Run) (status : Status) : Type 0 where
+pub record EndsWithReply (r : Run) (status : Status) : Type 0 where
   pub reply : Reply
   pub cause : IsCause r reply
   -- where something is refused, or can't be read, no file is changed at all, whatever the output did
-  pub untouched : IsRefusal (status_of reply) → ChangesNoFile r
+  pub untouched : IsRefusalStatus (status_of reply) → ChangesNoFile r
   pub printed : IsPrinted (text_of reply) (status_of reply) status r.before.output r.after.output
 
 -- a run ends with a reply, or memory ran out before its text was there; the files of a result may then be whole already
 abbrev pub Ends : Run → Status → Type 0
-Ends r status = Answers r status ⊎ IsPrinted (codes "no memory\n") NoMemory status r.before.output r.after.output
+Ends r status = EndsWithReply r status ⊎ IsPrinted (codes "no memory\n") NoMemory status r.before.output r.after.output
 
 -- What a run leaves as it was.
 
@@ -309,15 +292,15 @@ pub record HasBegun (r : Run) (into : ResultFiles) : Type 0 where
   pub left : IsPlanBegun r into instance cert ⊎ IsCertificateBegun r into instance cert
 
 -- which files a job may change: the long form of `solve` those of its result, and any other none
-abbrev pub Keeps : Run → Job → Type 0
-Keeps r SolveShort = ChangesNoFile r
-Keeps r (SolveLong into given) = ChangesNoFile r ⊎ HasBegun r into
-Keeps r ShowDuals = ChangesNoFile r
-Keeps r (Check certificate) = ChangesNoFile r
+abbrev pub KeepsFiles : Run → Job → Type 0
+KeepsFiles r SolveShort = ChangesNoFile r
+KeepsFiles r (SolveLong into given) = ChangesNoFile r ⊎ HasBegun r into
+KeepsFiles r ShowDuals = ChangesNoFile r
+KeepsFiles r (Check certificate) = ChangesNoFile r
 
 abbrev pub Leaves : Run → Option Command → Type 0
 Leaves r None = ChangesNoFile r
-Leaves r (Some (OnFile file job)) = Keeps r job
+Leaves r (Some (OnFile file job)) = KeepsFiles r job
 
 -- What follows from how a run ends.
 
@@ -334,12 +317,12 @@ IsResult CheckNo = Unit {0}
 IsResult status = ⊥
 
 -- The words, and what the files hold at the start, settle that this is the reply. They don't settle that a read or a write fails, or which result a search comes to.
-abbrev pub IsSettled : Reply → Type 0
-IsSettled InstanceUnread = ⊥
-IsSettled CertificateUnread = ⊥
-IsSettled Unwritten = ⊥
-IsSettled (Searched claim nodes budget) = ⊥
-IsSettled reply = Unit {0}
+abbrev pub IsSettledAtStart : Reply → Type 0
+IsSettledAtStart InstanceUnread = ⊥
+IsSettledAtStart CertificateUnread = ⊥
+IsSettledAtStart Unwritten = ⊥
+IsSettledAtStart (Searched claim nodes budget) = ⊥
+IsSettledAtStart reply = Unit {0}
 
 -- a run has another status than the one that is due: memory ran out, a read or a write of a file failed, or the output refused a part of the text
 pub data IsHindered (r : Run) (due status : Status) : Type 0 where
@@ -377,7 +360,7 @@ pub record Runs (r : Run) (status : Status) : Type 0 where
   pub leaves : Leaves r (command_of r.words)
   pub input : r.after.input ≡ r.before.input
   -- so where something is refused, or can't be read, no file is changed at all
-  pub untouched : IsRefusal status → ChangesNoFile r
+  pub untouched : IsRefusalStatus status → ChangesNoFile r
   -- So what is printed with the status of a result holds: it is the text of an optimal plan, that of raised duals, the verdict on a certificate, or the line
   -- of a search whose plan and certificate stand in their files; and it is all of it. The words settle which of these it is: a search's line comes in the long form
   -- of `solve` alone, and there no other result does. A front of such a line, too, stands in the output only where both files hold their whole texts, by the cause in `ends`.
@@ -385,6 +368,6 @@ pub record Runs (r : Run) (status : Status) : Type 0 where
   -- Words that are no command are answered so.
   pub usage : command_of r.words ≡ None → (status ≡ Usage) ⊎ (status ≡ NoMemory)
   -- Where the files are told, a reply whose cause is there gives the status, unless the run is hindered; a count that rose alone is no reason for a fault.
-  pub exact : IsTold r → (reply : Reply) → IsCause r reply → IsSettled reply → EndsAs r (status_of reply) status
+  pub exact : IsTold r → (reply : Reply) → IsCause r reply → IsSettledAtStart reply → EndsAs r (status_of reply) status
   -- So an instance of few sites is solved, any instance is searched and has its duals, and a certificate has its yes or its no.
   pub complete : IsTold r → (job : Job) (I : Instance) → HasTask r job I → IsComplete r job I status

@@ -1,3 +1,4 @@
+-- For private functions alone: no public contract cites this page.
 -- What the parts of a run say of it.
 use Rattle.std.specs.Prelude.{◌≡◌}
 use Rattle.shelf_port.specs.Files.{NeverFalls}

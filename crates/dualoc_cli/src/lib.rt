@@ -4,7 +4,6 @@
 //! the reply's text. Its contract says so: `specs/Due.antt` is the page to read.
 #![tactic(auto)]
 
-mod limits;
 mod options;
 mod program;
 mod reply;
@@ -15,6 +14,5 @@ mod text;
 mod words;
 
 pub use fixed_cost::MAX_INSTANCE_BYTES;
-pub use limits::DEFAULT_BUDGET;
 pub use program::run;
 pub use status::Status;

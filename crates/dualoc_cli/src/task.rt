@@ -7,7 +7,7 @@ ghost use Rattle.fixed_cost.specs.Reading.{Means};
 ghost use Rattle.instance_store.specs.Small.{IsSmall};
 ghost use Rattle.dualoc_cli.specs.Command.{OnFile, SolveShort, ShowDuals, Check, command_of, meaning_in};
 ghost use Rattle.dualoc_cli.specs.Reply.{status_of};
-ghost use Rattle.dualoc_cli.specs.Due.{Run, HasTask, Keeps, Leaves, IsCause, IsRefusal};
+ghost use Rattle.dualoc_cli.specs.Due.{Run, HasTask, KeepsFiles, Leaves, IsCause, IsRefusalStatus};
 ghost use Rattle.dualoc_cli.specs.Step.{asked, asked_file, asked_job, IsSuited, Covers};
 
 use crate::reply::Reply;
@@ -34,7 +34,7 @@ pub fn reply_to<H: Shelf>(alloc: Global, words: &[String], shelf: &mut H) -> Res
         Covers r (shelf_state (H.files shelf.old) (H.read_faults shelf.old) (H.write_faults shelf.old))
         (shelf_state (H.files shelf.new) (H.read_faults shelf.new) (H.write_faults shelf.new)) →
         Leaves r (command_of r.words) }
-    ensures untouched { IfOk result (λ reply. IsRefusal (status_of reply) → H.files shelf.new ≡ H.files shelf.old) }
+    ensures untouched { IfOk result (λ reply. IsRefusalStatus (status_of reply) → H.files shelf.new ≡ H.files shelf.old) }
 {
     match Command::of(words) {
         Some(command) => answer(alloc, command, shelf),
@@ -52,8 +52,8 @@ fn answer<H: Shelf>(alloc: Global, command: Command<'_>, shelf: &mut H) -> Resul
     ensures keeps { (r : Run) → command_of r.words ≡ Some (asked command.entry) →
         Covers r (shelf_state (H.files shelf.old) (H.read_faults shelf.old) (H.write_faults shelf.old))
         (shelf_state (H.files shelf.new) (H.read_faults shelf.new) (H.write_faults shelf.new)) →
-        Keeps r (asked_job command.entry.job) }
-    ensures untouched { IfOk result (λ reply. IsRefusal (status_of reply) → H.files shelf.new ≡ H.files shelf.old) }
+        KeepsFiles r (asked_job command.entry.job) }
+    ensures untouched { IfOk result (λ reply. IsRefusalStatus (status_of reply) → H.files shelf.new ≡ H.files shelf.old) }
 {
     let Command { file, job } = command;
     match read_whole(alloc, shelf, file.name, MAX_INSTANCE_BYTES) {
@@ -106,8 +106,8 @@ fn work<H: Shelf>(
     ensures keeps { (r : Run) → HasTask r (asked_job job.entry) inst →
         Covers r (shelf_state (H.files shelf.old) (H.read_faults shelf.old) (H.write_faults shelf.old))
         (shelf_state (H.files shelf.new) (H.read_faults shelf.new) (H.write_faults shelf.new)) →
-        Keeps r (asked_job job.entry) }
-    ensures untouched { IfOk result (λ reply. IsRefusal (status_of reply) → H.files shelf.new ≡ H.files shelf.old) }
+        KeepsFiles r (asked_job job.entry) }
+    ensures untouched { IfOk result (λ reply. IsRefusalStatus (status_of reply) → H.files shelf.new ≡ H.files shelf.old) }
     ensures reads { NeverFalls (H.read_faults shelf.old) (H.read_faults shelf.new) }
     ensures writes { NeverFalls (H.write_faults shelf.old) (H.write_faults shelf.new) }
 {

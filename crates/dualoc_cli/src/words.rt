@@ -1,6 +1,6 @@
 ghost use Rattle.std.specs.Prelude.{◌≡◌, [], ◌∷◌, map, string_bytes};
 ghost use Rattle.std.specs.Option.{option_map};
-ghost use Rattle.dualoc_cli.specs.Command.{command_of, solve_of, short_of, long_of, duals_of, check_of, unbudgeted, job_on, file_of, form_of, are_names};
+ghost use Rattle.dualoc_cli.specs.Command.{command_of, solve_command, short_of, long_of, duals_command, check_command, unbudgeted, job_on, file_of, form_of, are_names};
 ghost use Rattle.dualoc_cli.specs.Step.{asked, asked_file, asked_job, asked_result};
 
 use crate::options::Options;
@@ -101,9 +101,9 @@ impl<'a> Command<'a> {
 }
 
 // The words behind `solve`.
-#[tactic(auto, unfolding(crate::specs::Command::solve_of))]
+#[tactic(auto, unfolding(crate::specs::Command::solve_command))]
 fn solve(words: &[String]) -> Option<Command<'_>>
-    ensures { option_map asked result ≡ solve_of (map string_bytes words.now) }
+    ensures { option_map asked result ≡ solve_command (map string_bytes words.now) }
 {
     if let [form, file] = words {
         return short(form.as_str(), file.as_str());
@@ -155,9 +155,9 @@ fn long<'a>(
 }
 
 // The words behind `duals`.
-#[tactic(auto, unfolding(crate::specs::Command::duals_of))]
+#[tactic(auto, unfolding(crate::specs::Command::duals_command))]
 fn duals(words: &[String]) -> Option<Command<'_>>
-    ensures { option_map asked result ≡ duals_of (map string_bytes words.now) }
+    ensures { option_map asked result ≡ duals_command (map string_bytes words.now) }
 {
     let [form, file, options @ ..] = words else {
         return None;
@@ -170,9 +170,9 @@ fn duals(words: &[String]) -> Option<Command<'_>>
 }
 
 // The words behind `check`.
-#[tactic(auto, unfolding(crate::specs::Command::check_of))]
+#[tactic(auto, unfolding(crate::specs::Command::check_command))]
 fn check(words: &[String]) -> Option<Command<'_>>
-    ensures { option_map asked result ≡ check_of (map string_bytes words.now) }
+    ensures { option_map asked result ≡ check_command (map string_bytes words.now) }
 {
     let [form, file, certificate, options @ ..] = words else {
         return None;

@@ -1,10 +1,14 @@
-use Rattle.certificate_text.specs.Cert.{certificate_of}
-use Rattle.dualoc_cli.proofs.Searching.{start, found}
+use Rattle.tree_search.specs.Answer.{certificate_in}
+use Rattle.std.proofs.Common.{refl}
+use Rattle.dualoc_cli.proofs.Searching.{start, found, feasible_plan}
 use Rattle.dualoc_cli.proofs.search.found.Goals as goal
 
 pub grow-requires-clause-start : goal.grow-requires-clause-start
-grow-requires-clause-start c = start c.args.inst.now c.args.budget c.requires _ c.in_ok-tree.ensures
+grow-requires-clause-start c = start c.args.inst.now c.args.budget c.requires.within _ c.in_ok-tree.ensures
 
-pub returns : goal.returns
-returns c =
-    found c.args.inst.now c.sites-places.ensures.valid c.args.budget c.requires _ c.in_ok-tree.ensures c.in_ok-answer.answer c.in_ok-answer.ensures (certificate_of c.certificate.result) c.certificate.ensures
+pub returns-clause-found : goal.returns-clause-found
+returns-clause-found c =
+    found c.args.inst.now c.sites-places.ensures.valid c.args.budget c.requires.small _ c.in_ok-tree.ensures c.in_ok-answer.answer c.in_ok-answer.ensures (certificate_in c.args.inst.now c.in_ok-answer.answer) refl
+
+pub returns-clause-feasible : goal.returns-clause-feasible
+returns-clause-feasible c = feasible_plan c.args.inst.now _ _ c.args.budget c.in_ok-answer.answer c.in_ok-answer.ensures
