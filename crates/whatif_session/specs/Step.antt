@@ -1,0 +1,127 @@
+-- Of calls that are yet to come: no public contract cites this page.
+-- One step of a session: what a line does to the session and to the files, and its reply. All but a solve is a function of the session, the present instance and the line, with one
+-- exception: a file that is to be written may not be, where the count of its failed writes rose.
+use Rattle.std.specs.Prelude.{◌≡◌, ◌⊎◌, ℕ, List, [], length, Option, None, Some, nat_lt, nat_le, Result, Ok, Err, MatchBool, if◌then◌else◌}
+use Rattle.std.specs.List.{last_or}
+use Rattle.shelf_port.specs.Files.{Files, with_file, LeavesPrefix, Rose, NeverFalls}
+use Rattle.location_terms.specs.Instance.{Instance}
+use Rattle.location_terms.specs.Plan.{Plan}
+use Rattle.location_terms.specs.Tree.{nodes_of}
+use Rattle.location_terms.specs.Carried.{IsHanded}
+use Rattle.location_terms.specs.Certificate.{Certificate}
+use Rattle.instance_store.specs.declared.edit.Edit.{Edit}
+use Rattle.instance_store.specs.declared.edit.EditFault.{EditFault}
+use Rattle.instance_store.specs.Edits.{edited}
+use Rattle.tree_search.specs.Budget.{max_budget, budget_in}
+use Rattle.tree_search.specs.declared.answer.Answer.{Answer}
+use Rattle.tree_search.specs.Answer.{IsAnswerTo, plan_in, tree_in, made_in, claim_in}
+use Rattle.certificate_lines.specs.Text.{certificate_text}
+use Rattle.instance_text.specs.OwnText.{own_text}
+use Rattle.report.specs.PlanText.{plan_text_of}
+use Rattle.report.specs.SiteTable.{site_table_of}
+use Rattle.report.specs.Json.{json_text_of}
+use Rattle.whatif_session.specs.declared.fault.SessionFault.{SessionFault}
+use Rattle.whatif_session.specs.declared.fault.SessionFault.TheVariants as fault
+use Rattle.whatif_session.specs.declared.limits.TheConstants.{MAX_EDITS}
+use Rattle.whatif_session.specs.Lines.{SessionLine, Blank, TakeBack, ShowAnswer, ShowTable, ShowJson, Quit, Change, Solve, Save, Cert, session_line}
+use Rattle.whatif_session.specs.State.{SessionState, HeldEdit, IsPresent, present_plan, starting_tree, standing_answer, with_edit, without_edit, with_solve}
+use Rattle.whatif_session.specs.Replies.{refused_text, ok_text, edit_text, solve_text}
+
+-- a session at a moment of its run, with the files, where they are told, and how many writes of each name have failed
+pub record Moment : Type 0 where
+  pub session : SessionState
+  pub files : Option Files
+  pub failed_writes : List ℕ → ℕ
+
+-- Lines that are answered by a function.
+
+-- the reply, and the session that is left; or why the line is refused
+abbrev pub Told : Type 0
+Told = Result (List ℕ × SessionState) SessionFault
+
+abbrev pub told_edit : SessionState → Instance → Edit → Result Instance EditFault → Told
+told_edit state I e (Ok J) = Ok (edit_text I e, with_edit state e)
+told_edit state I e (Err refusal) = Err (fault.Edit refusal)
+
+-- an edit: it is refused where no more are held, or where the instance refuses it
+abbrev pub told_change : SessionState → Instance → Edit → Told
+told_change state I e = if nat_le MAX_EDITS (length state.edits) then Err fault.SessionFull else told_edit state I e (edited I e)
+
+-- the last edit, taken back
+abbrev pub told_undo : SessionState → Option HeldEdit → Told
+told_undo state None = Err fault.NothingToUndo
+told_undo state (Some held) = Ok (ok_text, without_edit state held)
+
+-- a text of the standing answer
+abbrev pub told_answer : SessionState → (Certificate → List ℕ) → Option Certificate → Told
+told_answer state text None = Err fault.Stale
+told_answer state text (Some cert) = Ok (text cert, state)
+
+-- the reply is the one that is told, and so is the session that is left; no file is changed
+pub record Replies (text : List ℕ) (state : SessionState) (old : Moment) (reply : List ℕ) (new : Moment) : Type 0 where
+  pub reply_is : reply ≡ text
+  pub left : new.session ≡ state
+  pub files : new.files ≡ old.files
+
+-- a refusal leaves the session as it is
+abbrev pub IsReplied : Told → Moment → List ℕ → Moment → Type 0
+IsReplied (Ok told) old reply new = Replies told.0 told.1 old reply new
+IsReplied (Err refusal) old reply new = Replies (refused_text refusal) old.session old reply new
+
+-- Lines that write a file.
+
+-- the file holds the whole text
+pub record IsWritten (name text : List ℕ) (old : Moment) (reply : List ℕ) (new : Moment) : Type 0 where
+  pub reply_is : reply ≡ ok_text
+  pub files : new.files ≡ with_file old.files name text
+
+-- a write failed: the file is as it was, or holds a front of the text
+pub record IsLeftUnwritten (name text : List ℕ) (old : Moment) (reply : List ℕ) (new : Moment) : Type 0 where
+  pub failed : Rose (old.failed_writes name) (new.failed_writes name)
+  pub reply_is : reply ≡ refused_text fault.WriteFailed
+  pub files : LeavesPrefix old.files new.files name text
+
+-- the text is to be written to the file of this name, and the session stays
+abbrev pub Writes : List ℕ → List ℕ → Moment → List ℕ → Moment → Type 0
+Writes name text old reply new = (new.session ≡ old.session) × (IsWritten name text old reply new ⊎ IsLeftUnwritten name text old reply new)
+
+-- the certificate of the standing answer is to be written, where one stands
+abbrev pub WritesAnswer : List ℕ → Instance → Option Certificate → Moment → List ℕ → Moment → Type 0
+WritesAnswer name I None old reply new = IsReplied (Err fault.Stale) old reply new
+WritesAnswer name I (Some cert) old reply new = Writes name (certificate_text I cert) old reply new
+
+-- Solves.
+
+-- A search from the carried tree, which is handed the carried plan where that is feasible, came to this answer. So leaves that close with the plan's cost stand, and are not made again.
+pub record Solves (I : Instance) (budget : ℕ) (old : Moment) (reply : List ℕ) (new : Moment) : Type 0 where
+  pub handed : Option Plan
+  pub is_handed : IsHanded I (present_plan old.session) handed
+  pub answer : Answer
+  pub found : IsAnswerTo I (starting_tree old.session I) handed budget answer
+  pub replies : Replies (solve_text (claim_in I answer) (made_in answer) (nodes_of (tree_in answer)) budget) (with_solve old.session (claim_in I answer) (tree_in answer) (plan_in answer)) old reply new
+
+abbrev pub SolvesWithin : Instance → ℕ → Moment → List ℕ → Moment → Type 0
+SolvesWithin I budget old reply new = MatchBool (nat_lt (max_budget I) budget) (IsReplied (Err fault.BudgetTooLarge) old reply new) (Solves I budget old reply new)
+
+-- The step.
+
+-- what the line does, where this is the present instance
+abbrev pub Does : Instance → Option SessionLine → Moment → List ℕ → Moment → Type 0
+Does I None old reply new = IsReplied (Err fault.BadCommand) old reply new
+Does I (Some Blank) old reply new = Replies [] old.session old reply new
+Does I (Some Quit) old reply new = Replies [] old.session old reply new
+Does I (Some (Change e)) old reply new = IsReplied (told_change old.session I e) old reply new
+Does I (Some TakeBack) old reply new = IsReplied (told_undo old.session (last_or None old.session.edits)) old reply new
+Does I (Some (Solve given)) old reply new = SolvesWithin I (budget_in I given) old reply new
+Does I (Some ShowAnswer) old reply new = IsReplied (told_answer old.session (λ cert. plan_text_of I cert.claim cert.plan) (standing_answer old.session)) old reply new
+Does I (Some ShowTable) old reply new = IsReplied (told_answer old.session (λ cert. site_table_of I cert.plan) (standing_answer old.session)) old reply new
+Does I (Some ShowJson) old reply new = IsReplied (told_answer old.session (λ cert. json_text_of I cert.claim cert.plan) (standing_answer old.session)) old reply new
+Does I (Some (Save name)) old reply new = Writes name (own_text I) old reply new
+Does I (Some (Cert name)) old reply new = WritesAnswer name I (standing_answer old.session) old reply new
+
+-- a line takes the session from one moment to the next, with this reply
+pub record SessionStep (old : Moment) (line reply : List ℕ) (new : Moment) : Type 0 where
+  pub instance : Instance
+  pub present : IsPresent old.session instance
+  pub does : Does instance (session_line line) old reply new
+  pub counts : NeverFalls old.failed_writes new.failed_writes
