@@ -15,6 +15,3 @@ mod within;
 
 pub use assignment::Assignment;
 pub use proposing::{assigned_plan, seated_plan};
-
-#[cfg(test)]
-mod tests;

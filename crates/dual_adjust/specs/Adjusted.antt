@@ -23,7 +23,7 @@ pub record IsAdjusted (I : Instance) (path : Path) (rounds : ℕ) (start result 
   pub ascent : (a : Duals) → IsAscended I path start a → bound_of I path a ≤ℤ bound_of I path result
   pub gain : (a : Duals) → IsAscended I path start a → 1 ≤ rounds → Gains I path a → bound_of I path a <ℤ bound_of I path result
 
--- what comes of a step that gains: the same prices, a greater bound, and all that an ascent gives
+-- duals with the same prices, a greater bound, and all that an ascent gives
 pub record IsGain (I : Instance) (path : Path) (d result : Duals) : Type 0 where
   pub gains : Gains I path d
   pub same_prices : HaveSamePrices d result
@@ -32,7 +32,7 @@ pub record IsGain (I : Instance) (path : Path) (d result : Duals) : Type 0 where
   pub blocked : IsBlocked I path result
   pub greater : bound_of I path d <ℤ bound_of I path result
 
--- what comes of the first step that gains, or that none does
+-- duals of a greater bound, or that no step gains
 abbrev pub IsFirstGain : Instance → Path → Duals → Option Duals → Type 0
 IsFirstGain I path d None = Gains I path d → ⊥
 IsFirstGain I path d (Some e) = IsGain I path d e

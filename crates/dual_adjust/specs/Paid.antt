@@ -1,3 +1,4 @@
+-- For private functions alone: no public contract cites this page.
 -- The sites that a customer pays.
 use Rattle.std.specs.Prelude.{◌≡◌, ◌≢◌, ℕ, ◌<◌, ◌==◌, ◌&&◌, Bool, true, List, length, filter, All, AllPairs, Contains, Option, None, Some, ℤ, int_lt, if◌then◌else◌}
 use Rattle.std.specs.List.{list_any}

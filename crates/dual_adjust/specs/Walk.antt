@@ -1,3 +1,4 @@
+-- For private functions alone: no public contract cites this page.
 -- The lanes over which a walk goes.
 use Rattle.std.specs.Prelude.{◌≡◌, ℕ, ◌<◌, List, length, map, All}
 use Rattle.std.specs.List.Sorted.{IsNonDecreasingBy}

@@ -64,8 +64,9 @@ pub fn adjust_once(boxed: &PreparedBox<'_>, order: &LaneOrder, trials: &mut Tria
     let _place = next_gain(boxed, order, trials, 0);
 }
 
-/// What the first step of an adjustment that gains comes to, from duals that an ascent has raised, and
-/// `None` exactly where no step gains. It fails only where memory runs out.
+/// Duals of a greater bound than these, which an ascent has raised: with the same prices, and raised
+/// themselves. `None` comes exactly where no step of an adjustment gains; that they come of such a step
+/// isn't said. It fails only where memory runs out.
 pub fn gain(
     alloc: Global,
     inst: &Instance,

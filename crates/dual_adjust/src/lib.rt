@@ -13,6 +13,3 @@ pub use adjusting::{adjust, adjust_in, adjust_once, gain};
 pub use laws::candidates;
 pub use slackness::{tight_sites, violations};
 pub use trials::Trials;
-
-#[cfg(test)]
-mod tests;

@@ -1,3 +1,4 @@
+-- For private functions alone: no public contract cites this page.
 -- What the steps of an ascent find out, and what holds between them.
 use Rattle.std.specs.Prelude.{◌≡◌, ◌⊎◌, ℕ, ◌<◌, ◌==◌, not, Bool, true, false, List, length, filter, Option, None, Some, ℤ, pos, ◌+ℤ◌, ◌≤ℤ◌, ◌<ℤ◌, slice_index_or, unwrap_or}
 use Rattle.location_terms.specs.Instance.{Instance, site_at, customer_at}

@@ -1,3 +1,4 @@
+-- For private functions alone: no public contract cites this page.
 -- The lanes over which a walk goes, by place.
 use Rattle.std.specs.Prelude.{◌≡◌, ℕ, ◌<◌, ◌≤◌, List, length, get_or, Some, IsSome}
 use Rattle.location_terms.specs.Instance.{Instance, site_at, customer_at, lane}

@@ -17,6 +17,3 @@ pub use instance_store::{Instance, NoMemory};
 pub use lane_order::LaneOrder;
 pub use laws::ascents;
 pub use workspace::Workspace;
-
-#[cfg(test)]
-mod tests;

@@ -22,6 +22,3 @@ pub use instance_store::{Instance, NoMemory};
 pub use lane_order::LaneOrder;
 pub use progress::Progress;
 pub use steps::Steps;
-
-#[cfg(test)]
-mod tests;

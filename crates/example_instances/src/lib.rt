@@ -103,6 +103,3 @@ pub fn road(alloc: Global, lo: u32, hi: u32, fixed: u64) -> Result<Instance, NoM
     let custs = vec![in alloc; customer(1, 0), customer(2, 0), customer(3, 0)]?;
     Instance::from_parts(alloc, lo, hi, 4, 4, custs, sites)
 }
-
-#[cfg(test)]
-mod tests;

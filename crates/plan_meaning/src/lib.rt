@@ -7,8 +7,6 @@ mod fault;
 mod judging;
 mod parts;
 mod plan;
-#[cfg(test)]
-mod tests;
 
 pub use amounts::{cost, fixed_cost, lane_used, load};
 pub use fault::PlanFault;

@@ -1,3 +1,4 @@
+-- For private functions alone: no public contract cites this page.
 -- Sites flagged by place.
 use Rattle.std.specs.Prelude.{◌≡◌, ℕ, ◌<◌, Bool, false, List, length, filter, slice_index_or}
 use Rattle.std.specs.List.{range_with_len}

@@ -1,3 +1,4 @@
+-- For private functions alone: no public contract cites this page.
 -- What is known while customers take their lanes.
 use Rattle.std.specs.Prelude.{◌≡◌, ◌≢◌, ℕ, ◌+◌, ◌<◌, ◌==◌, ◌&&◌, List, length, filter, filter_map, find, All, AllPairs, Option, None, Some, option_map, slice_index_or}
 use Rattle.location_terms.specs.Instance.{Instance, site_at, customer_at}

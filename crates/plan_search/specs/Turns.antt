@@ -1,3 +1,4 @@
+-- For private functions alone: no public contract cites this page.
 -- The customers' turns, as they are stored.
 use Rattle.std.specs.Prelude.{ℕ, ◌-◌, List, map, length, IsPermutation}
 use Rattle.std.specs.List.{range_with_len}

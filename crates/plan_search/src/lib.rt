@@ -23,6 +23,3 @@ pub use known::is_path_of;
 pub use laws::packed_plans;
 pub use local::LocalSearch;
 pub use seeking::{best_seen, improved_set, packed_in, plan_around};
-
-#[cfg(test)]
-mod tests;

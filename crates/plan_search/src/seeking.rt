@@ -115,8 +115,9 @@ pub fn improved_set(
     Ok(below(inst, plan, limit))
 }
 
-/// A plan in a box without free sites, around a site that is named for each customer, by place. It is only
-/// proposed: that none is given says nothing of the box. It fails only where memory runs out.
+/// A feasible plan, sought in a box without free sites around a site that is named for each customer, by place.
+/// Nothing says that it is in the box, and that none is given says nothing of the box. It fails only where
+/// memory runs out.
 pub fn plan_around(
     alloc: Global,
     boxed: &PreparedBox,

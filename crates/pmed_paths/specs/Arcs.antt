@@ -1,3 +1,4 @@
+-- For private functions alone: no public contract cites this page.
 -- The edges of a network by the vertex that they start from, which is at a place counted from 0.
 use Rattle.std.specs.Prelude.{◌≡◌, ℕ, ◌+◌, ◌-◌, ◌<◌, List, [], ◌∷◌, ◌++◌, length, All, Contains, Some, slice_index_or, slice_set}
 use Rattle.pmed_paths.specs.Network.{Network, edge}

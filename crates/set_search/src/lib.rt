@@ -12,6 +12,3 @@ mod set;
 
 pub use ordered::Ordered;
 pub use seeking::SetSearch;
-
-#[cfg(test)]
-mod tests;

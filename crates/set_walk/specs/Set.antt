@@ -1,3 +1,4 @@
+-- For private functions alone: no public contract cites this page.
 -- Sets of sites of an instance, and what a cheapest plan that opens such a set costs.
 use Rattle.std.specs.Prelude.{◌≡◌, ℕ, ◌+◌, ◌/◌, ◌%◌, ◌==◌, List, [], ◌∷◌, sum_by, min, Contains, All, unwrap_or, if◌then◌else◌}
 use Rattle.location_terms.specs.Instance.{Instance, site_ids, customer_ids, lane, fixed_of}

@@ -13,6 +13,3 @@ pub use walk::{Cheapest, cheapest_plan};
 
 /// The most sites that the walk takes.
 pub const MAX_WALK_SITES: usize = 12;
-
-#[cfg(test)]
-mod tests;

@@ -1,3 +1,4 @@
+-- For private functions alone: no public contract cites this page.
 -- What a round of steps leaves of the duals at work.
 use Rattle.std.specs.Prelude.{◌≡◌, ◌≤ℤ◌}
 use Rattle.location_terms.specs.Instance.{Instance}

@@ -30,6 +30,3 @@ pub use lane_order::LaneOrder;
 pub use links::LanePlace;
 pub use pace::{AT_ROOT, IN_NODE, Pace};
 pub use transport::Transport;
-
-#[cfg(test)]
-mod tests;

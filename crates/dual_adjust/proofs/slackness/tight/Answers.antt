@@ -20,7 +20,7 @@ loop-site-preserved c =
     let d = c.args.duals.now in
     let k = c.loop-site.site in
     let id : ℕ → ℕ = λ i. (site_at I i).id in
-    let exact : c.slack.result ≡ slack_of I path d k = rw (c.instance-inst.ensures, c.path.ensures) at c.slack.ensures.exact in
+    let exact : c.slack.result ≡ slack_of I path d k = rw (c.instance-inst.ensures, c.deref.ensures, c.path.ensures) at c.slack.ensures.exact in
     let bits : to_z w128 (of_z w128 c.slack.result) ≡ slack_of I path d k = kept c.slack.result MAX_SLACK c.slack.ensures.small (omega arith) ∙ exact in
     let is : c.is_tight.result ≡ is_tight I path d k = rw bits at c.is_tight.ensures in
     elim c.if-is_tight.branch [
