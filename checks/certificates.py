@@ -1,229 +1,207 @@
 """Compares the verdicts of a built program with those of a plain reading of docs/FORMATS.md: `certificates.py PROGRAM`.
 
-The reading goes over the whole list of a certificate's lines, knows the UflLib simple format alone, and adds
-up every bound anew. Both are asked about a few certificates, all their proper prefixes, all deletions of one
-byte, and many random changes; and the program about two files that are longer than any that is looked at.
+The reading stands in `verdicts.py`. Both are asked about a few certificates of the forms `ufl`, `cap` and `pmed`, with prices
+of capacities and of the number of sites, rays and splits on lanes: about all their proper prefixes, all deletions of one
+byte, and many random changes. Then about random trees over random small instances, whose splits may contradict each other and
+whose claims lie at the very cost at which a leaf closes and beside it; and about the certificates of searches, which have to
+have the yes of both, with their numbers changed by little. The program is asked besides about two files that are longer than
+any that is looked at. Files in which sites must be open or stay closed can't be read yet, so nothing is compared of them.
 """
+import random
 import re
+import sys
+from collections import Counter
 
-from common import main, money, texts
+from capacities import Warehouses, some_network
+from common import MICRO, differs, main, money, texts
+from instances import Fault as FileFault
+from solve import cover, file_of, scattered
+from verdicts import Box, Instance, verdict
 
-MAX_COST = 8 * 10**18
-MAX_ID = 2**32 - 1
 MAX_BYTES = 2**30
-NUMBER, PLAIN_NUMBER = re.compile(rb"[-+]?[0-9]+\Z"), re.compile(rb"(0|-?[1-9][0-9]*)\Z")
-COST, PLAIN_COST = re.compile(rb"[0-9]+\.[0-9]+\Z"), re.compile(rb"(0|[1-9][0-9]*)\.[0-9]{6}\Z")
-
-
-class Fault(Exception):
-    """The line that the checker prints."""
-
-
-class Instance:
-    """Whole units, as the files below have them, in millionths."""
-
-    def __init__(self, text):
-        numbers = [int(word) * 10**6 for line in text.splitlines() for word in line.split()]
-        self.m, self.n = numbers[0] // 10**6, numbers[1] // 10**6
-        rows = [numbers[3 + i * (self.n + 2):][:self.n + 2] for i in range(self.m)]
-        self.fixed = [row[1] for row in rows]
-        self.lanes = [row[2:] for row in rows]
-
-
-def bound(inst, path, q, nu, v):
-    called = {step[1] for step in path if step[0] in ("opened", "yes")}
-    closed = {step[1] for step in path if step[0] == "closed"}
-    total = sum(v) - nu * (3000 if nu >= 0 else 0)
-    for site in range(1, inst.m + 1):
-        if site in closed:
-            continue
-        slack = q * inst.fixed[site - 1] + nu
-        for cust in range(1, inst.n + 1):
-            barred = ("no", site, cust) in path or any(s[0] == "yes" and s[2] == cust and s[1] != site for s in path)
-            if not called & closed and not barred:
-                slack -= max(0, v[cust - 1] - q * inst.lanes[site - 1][cust - 1])
-        total += slack if site in called else min(0, slack)
-    return total
-
-
-class Reader:
-    """The lines of a text, one behind the other, with the tests of their words."""
-
-    def __init__(self, text):
-        self.lines = text.split(b"\n")
-        self.number = 0
-
-    def fault(self, kind):
-        raise Fault(f"no {kind} line {self.number}")
-
-    def next(self):
-        self.number += 1
-        if self.number == len(self.lines):
-            self.fault("Ended")
-        self.line = self.lines[self.number - 1]
-        return [word for word in re.split(rb"[ \t\r]+", self.line) if word]
-
-    def numbers(self, words, args, rising=False):
-        if not all(NUMBER.match(arg) for arg in args):
-            self.fault("BadLine")
-        values = [int(arg) for arg in args]
-        falls = rising and any(a >= b for a, b in zip(values, values[1:]))
-        if self.line != b" ".join(words) or not all(PLAIN_NUMBER.match(arg) for arg in args) or falls:
-            self.fault("NotCanonical")
-        return values
-
-    def ids(self, values, most):
-        if any(not 0 <= value <= MAX_ID for value in values):
-            self.fault("OutOfRange")
-        if any(not 1 <= value <= last for value, last in zip(values, most)):
-            self.fault("UnknownId")
-
-    def fixed(self, words, due):
-        if words != due:
-            self.fault("BadLine")
-        if self.line != b" ".join(words):
-            self.fault("NotCanonical")
-
-
-def read_claim(reader):
-    words = reader.next()
-    costs = {3: words[2:], 4: words[2:3] if words[3:] == [b"none"] else words[2:]}.get(len(words), [])
-    named = words[:1] == [b"claim"] and words[1:2] == [{2: b"infeasible", 3: b"optimal", 4: b"bracket"}.get(len(words))]
-    if not named or not all(COST.match(cost) for cost in costs):
-        reader.fault("BadLine")
-    if reader.line != b" ".join(words) or not all(PLAIN_COST.match(cost) for cost in costs):
-        reader.fault("NotCanonical")
-    values = [int(cost.replace(b".", b"")) for cost in costs]
-    if any(value > MAX_COST for value in values):
-        reader.fault("OutOfRange")
-    return words[1].decode(), values
-
-
-def judge_plan(reader, inst, cost):
-    words = reader.next()
-    if words[:1] != [b"open"]:
-        reader.fault("BadLine")
-    opened = reader.numbers(words, words[1:], rising=True)
-    reader.ids(opened, [inst.m] * len(opened))
-    words = reader.next()
-    if words[:1] != [b"serve"] or len(words) != 1 + inst.n:
-        reader.fault("BadLine")
-    serve = reader.numbers(words, words[1:])
-    reader.ids(serve, [inst.m] * inst.n)
-    if any(site not in opened for site in serve):
-        raise Fault(f"no PlanRefused line {reader.number} ServedByClosed")
-    found = sum(inst.fixed[s - 1] for s in opened) + sum(inst.lanes[s - 1][j] for j, s in enumerate(serve))
-    if found != cost:
-        raise Fault(f"no CostDiffers line {reader.number} found {money(found)}")
-
-
-def judge_leaf(reader, inst, path, words, target):
-    q, nu = reader.numbers(words, words[1:])
-    line = reader.number
-    if not 0 <= q <= 10**6 or abs(nu) > 10**24:
-        reader.fault("OutOfRange")
-    words = reader.next()
-    if words[:1] != [b"v"] or len(words) != 1 + inst.n:
-        reader.fault("BadLine")
-    v = reader.numbers(words, words[1:])
-    if any(abs(value) > 10**24 for value in v):
-        reader.fault("OutOfRange")
-    words = reader.next()
-    if words[:1] != [b"u"] or len(words) % 2 == 0:
-        reader.fault("BadLine")
-    pairs = reader.numbers(words, words[1:])
-    sites, prices = pairs[::2], pairs[1::2]
-    if any(a >= b for a, b in zip(sites, sites[1:])) or 0 in prices:
-        reader.fault("NotCanonical")
-    if any(not 0 <= price <= 10**18 for price in prices) or any(1 <= site <= inst.m for site in sites):
-        reader.fault("OutOfRange")
-    reader.ids(sites, [inst.m] * len(sites))
-    found = bound(inst, path, q, nu, v)
-    if not (found >= 1 if q == 0 else target is not None and found > q * (target - 1)):
-        raise Fault(f"no LeafOpen line {line} bound {found} scale {q}")
-
-
-def judge_tree(reader, inst, target):
-    due = [()]
-    while due:
-        path = due.pop()
-        words = reader.next()
-        if len(words) == 2 and words[0] == b"site":
-            (site,) = reader.numbers(words, words[1:])
-            reader.ids([site], [inst.m])
-            due += [path + (("opened", site),), path + (("closed", site),)]
-        elif len(words) == 3 and words[0] == b"lane":
-            site, cust = reader.numbers(words, words[1:])
-            reader.ids([site, cust], [inst.m, inst.n])
-            due += [path + (("yes", site, cust),), path + (("no", site, cust),)]
-        elif len(words) == 3 and words[0] == b"leaf":
-            judge_leaf(reader, inst, path, words, target)
-        else:
-            reader.fault("BadLine")
-
-
-def verdict(inst, text):
-    reader = Reader(text)
-    try:
-        reader.fixed(reader.next(), [b"dualoc-certificate", b"1"])
-        words = reader.next()
-        if len(words) != 4 or words[::2] != [b"sites", b"customers"]:
-            reader.fault("BadLine")
-        m, n = reader.numbers(words, words[1::2])
-        if not (1 <= m <= 3000 and 1 <= n <= 5000):
-            reader.fault("OutOfRange")
-        if (m, n) != (inst.m, inst.n):
-            reader.fault("WrongSizes")
-        kind, costs = read_claim(reader)
-        if kind == "optimal" or len(costs) == 2:
-            judge_plan(reader, inst, costs[-1])
-        judge_tree(reader, inst, costs[0] if costs else None)
-        reader.fixed(reader.next(), [b"end"])
-        reader.number += 1
-        if reader.lines[reader.number - 1:] != [b""]:
-            reader.fault("Trailing")
-    except Fault as fault:
-        return str(fault)
-    ends = [money(cost) for cost in costs] + ["none"] * (kind == "bracket" and len(costs) == 1)
-    return " ".join(["yes", kind] + ends)
-
+CHANGED, NUDGED, RANDOM, SEARCHES, DEPTH = 250, 100, 1500, 150, 3
 
 PAIR = "2 3 0\n1 10 1 2 9\n2 12 8 7 1\n"
 RING = "3 3 0\n1 2 0 0 9\n2 2 9 0 0\n3 2 0 9 0\n"
-HEAD = "dualoc-certificate 1\nsites {} customers 3\nclaim {}\n"
-BEST = HEAD.format(2, "optimal 22.000000") + "open 1\nserve 1 1 1\nleaf 1 0\nv 11000000 2000000 9000000\nu\nend\n"
-SPLIT = (HEAD.format(3, "optimal 4.000000") + "open 1 2\nserve 1 1 2\nsite 1\nleaf 1 0\nv 2000000 2000000 0\nu\n"
+ROOMS = "2 2\n10 7500\n10 .5\n6 6739.725 1.25\n6 3 4\n"
+NET = "3 3 1\n1 2 5\n2 3 7\n1 2 4\n"
+HEAD = "dualoc-certificate 1\nsites {} customers {}\nclaim {}\n"
+BEST = HEAD.format(2, 3, "optimal 22.000000") + "open 1\nserve 1 1 1\nleaf 1 0\nv 11000000 2000000 9000000\nu\nend\n"
+SPLIT = (HEAD.format(3, 3, "optimal 4.000000") + "open 1 2\nserve 1 1 2\nsite 1\nleaf 1 0\nv 2000000 2000000 0\nu\n"
          "leaf 1 0\nv 0 0 2000000\nu\nend\n")
-BOTH = (HEAD.format(3, "bracket 2.000000 none") + "lane 1 2\nleaf 1 0\nv 2000000 0 1000000\nu\n"
+BOTH = (HEAD.format(3, 3, "bracket 2.000000 none") + "lane 1 2\nleaf 1 0\nv 2000000 0 1000000\nu\n"
         "site 1\nleaf 0 0\nv 1 0 0\nu\nleaf 1000 -5\nv 1000000000 0 2000000000\nu\nend\n")
+PRICED = (HEAD.format(2, 2, "optimal 7504.750000") + "open 1 2\nserve 2 1\nsite 2\nleaf 0 0\nv 6000000 6000000\nu 1 1 2 1\n"
+          "site 1\nleaf 0 0\nv 6000000 6000000\nu 2 1\nlane 1 2\nleaf 1000 0\nv 1250000000 3000000000\nu 1 250 2 40\n"
+          "leaf 1000 0\nv 1250000000 3000000000\nu\nend\n")
+COUNTED = HEAD.format(3, 3, "optimal 11.000000") + "open 2\nserve 2 2 2\nleaf 1 7500002\nv 7500001 3750001 7250000\nu\nend\n"
+FILES = [("ufl", PAIR, BEST), ("ufl", RING, SPLIT), ("ufl", RING, BOTH), ("cap", ROOMS, PRICED), ("pmed", NET, COUNTED)]
 CHANGES = [(b"22.000000", b"21.000000"), (b"serve 1 1 1", b"serve 1 1 2"), (b" 2000000", b" 02000000"),
            (b"u\n", b"u 1 5\n"), (b"end\n", b""), (b"end\n", b"end\nx\n"), (b"open 1", b"open 7"),
            (b"customers 3", b"customers 4"), (b"9000000", b"8000000"), (b"9000000", b"9" * 100),
-           (b"open 1", b"open " + b"1" * 40 + b" " + b"2" * 40)]
+           (b"open 1", b"open " + b"1" * 40 + b" " + b"2" * 40), (b"serve 2 1", b"serve 1 1"), (b"u 2 1", b"u 2 0"),
+           (b"u 2 1", b"u 2 " + b"9" * 18), (b"u 2 1", b"u 3 1"), (b"u 2 1", b"u 2 -1"), (b"open 2", b"open 1 2")]
 PIECES = b" \t\r\n+-0123456789.xnoneu\0\xff"
+# What has to be among the verdicts, so that the check doesn't become empty.
+DUE = ["yes optimal", "yes infeasible", "yes bracket", "no LeafOpen", "no CostDiffers", "ServedByClosed", "NoLane",
+       "OverCapacity", "SiteCount", "no UnknownId", "no OutOfRange", "no NotCanonical"]
 
 
-def compare(program, text, due):
-    """Stops where the program doesn't answer the certificate with the line that is due."""
-    program.write("k", text)
-    status = 0 if due.startswith("yes") else 3
-    program.expect(due + "\n", status, text, "check", "ufl", "a", "k")
+class Verdicts:
+    """The program, asked about certificates of one instance after the other, and which verdicts came."""
+
+    def __init__(self, program):
+        self.program, self.found, self.traits = program, Counter(), Counter()
+
+    def take(self, form, text, given=None):
+        """Has the certificates that follow be those of this file."""
+        self.form, self.text = form, text
+        self.options = [] if given is None else [f"capacity={money(given)}"]
+        self.inst = Instance.of(form, text, given)
+        self.program.write("a", text)
+
+    def compare(self, text):
+        """Stops where the program doesn't answer the certificate with the line that is due."""
+        due = verdict(self.inst, text)
+        self.program.write("k", text)
+        shown = (self.form, self.text, self.options, text)
+        self.program.expect(due + "\n", 0 if due.startswith("yes") else 3, shown, "check", self.form, "a", "k", *self.options)
+        self.found.update(it for it in DUE if it in due)
+        return due
+
+
+def some_duals(inst):
+    """Duals of scale 1 and more around the costs, or small numbers of scale 0."""
+    capped = [site for site in range(1, inst.m + 1) if inst.capacities[site - 1] is not None]
+    q = random.choice([0, 1, 1, 1000, 10**6, random.randrange(1, 3000)])
+    if q == 0:
+        v = [random.choice([0, 1, demand, demand]) for demand in inst.demands]
+        prices = {site: random.choice([0, 1, 1, 1, 2]) for site in capped}
+        nu = random.choice([0, 0, 1, -1])
+    else:
+        share = q * (sum(inst.fixed) // (inst.m * inst.n) + 1)
+        costs = [[cost for cost in column if cost is not None] or [0] for column in zip(*inst.lanes)]
+        v = [q * random.choice(column) + random.choice([0, 0, share, random.randrange(-share, 2 * share)]) for column in costs]
+        most = lambda site: q * inst.fixed[site - 1] // max(1, inst.capacities[site - 1]) + q // 4 + 2
+        prices = {site: random.choice([0, random.randrange(most(site))]) for site in capped}
+        nu = random.choice([0, 0, 0, share, -share, random.randrange(-share, share)])
+    return q, nu, v, {site: price for site, price in prices.items() if price}
+
+
+def some_tree(inst, path, depth, leaves):
+    """The lines of a random tree; its leaves are added, each with its path and duals."""
+    if depth == 0 or random.random() < 0.3:
+        q, nu, v, u = duals = some_duals(inst)
+        leaves.append((path, duals))
+        prices = "".join(f" {site} {price}" for site, price in u.items())
+        return f"leaf {q} {nu}\nv {' '.join(map(str, v))}\nu{prices}\n"
+    site, customer = random.randint(1, inst.m), random.randint(1, inst.n)
+    if random.random() < 0.5:
+        line, steps = f"site {site}\n", [("closed", site), ("opened", site)]
+    else:
+        line, steps = f"lane {site} {customer}\n", [("no", site, customer), ("yes", site, customer)]
+    return line + "".join(some_tree(inst, path + (step,), depth - 1, leaves) for step in steps)
+
+
+def some_plan(inst):
+    """A random plan, mostly over lanes that are there, with what it costs."""
+    some = random.randint(1, inst.m) if random.random() < 0.3 else max(1, min(inst.most, inst.m))
+    opened = sorted(random.sample(range(1, inst.m + 1), some))
+    serve = [random.choice(opened if random.random() < 0.98 else range(1, inst.m + 1)) for _ in range(inst.n)]
+    lanes = [inst.lanes[site - 1][j] or 0 for j, site in enumerate(serve)]
+    return opened, serve, sum(inst.fixed[site - 1] for site in opened) + sum(lanes)
+
+
+def some_certificate(inst, traits):
+    """A random certificate whose claim is near the greatest low end that its tree shows."""
+    leaves = []
+    tree = some_tree(inst, (), random.randrange(DEPTH + 1), leaves)
+    bounds = [(Box(inst, path).bound(*duals), duals[0]) for path, duals in leaves]
+    ends = [(bound - 1) // q + 1 for bound, q in bounds if q > 0]
+    low = max(0, min(ends, default=random.randrange(10 * MICRO)) + random.choice([0, 0, 0, 1, 1, -1]))
+    traits["prices"] += any(duals[3] for _, duals in leaves)
+    traits["rays"] += any(q == 0 and bound >= 1 for bound, q in bounds)
+    traits["lanes"] += "lane" in tree
+    traits["counts"] += any(duals[1] for _, duals in leaves)
+    opened, serve, cost = some_plan(inst)
+    plan = f"open {' '.join(map(str, opened))}\nserve {' '.join(map(str, serve))}\n"
+    kind = random.choice(["none", "none", "high", "optimal", "infeasible"] if ends else ["infeasible", "none"])
+    claim, plan = {"none": (f"bracket {money(low)} none", ""), "high": (f"bracket {money(low)} {money(cost)}", plan),
+                   "optimal": (f"optimal {money(random.choice([cost, cost, low]))}", plan), "infeasible": ("infeasible", "")}[kind]
+    return (HEAD.format(inst.m, inst.n, claim) + plan + tree + "end\n").encode()
+
+
+def some_file():
+    """A random small instance: its form, its text, and what the word `capacity` stands for in it."""
+    kind = random.choice(["cap", "cap", "pmed", "ufl", "uncap"])
+    if kind in ("cap", "uncap"):
+        task = Warehouses()
+        return kind, task.text(), task.option if kind == "cap" else None
+    if kind == "pmed":
+        return kind, some_network(), None
+    fixed, lanes = random.choice([scattered, cover])(random.randrange(2, 6), random.randrange(1, 6))
+    return kind, file_of(fixed, lanes), None
+
+
+def take_some(verdicts):
+    """Has the verdicts be on a random instance; a network whose walks cost too much is none."""
+    while True:
+        try:
+            return verdicts.take(*some_file())
+        except FileFault:
+            continue
+
+
+def nudged(text):
+    """The text with one of its numbers, of the claim or the tree, changed by little, or two of its ids exchanged."""
+    spots = [it for it in re.finditer(rb"-?[0-9]+(\.[0-9]+)?", text) if it.start() > text.index(b"claim")]
+    spot = random.choice(spots)
+    if spot[1]:
+        number = money(max(0, int(spot[0].replace(b".", b"")) + random.choice([1, -1]))).encode()
+    else:
+        number = str(int(spot[0]) + random.choice([1, -1, 1, -1, 1000, -1000])).encode()
+    return text[:spot.start()] + number + text[spot.end():]
+
+
+def searched(verdicts, program):
+    """The certificate of a search, with a budget that may be too small, has the yes of both; and then its changes are compared."""
+    budget = [] if random.random() < 0.6 else [f"budget={random.randrange(6)}"]
+    said, status = program.ask("solve", verdicts.form, "a", "plan", "proof", *verdicts.options, *budget)
+    with open(program.at("proof"), "rb") as file:
+        text = file.read()
+    due = verdicts.compare(text)
+    if status > 2 or due != "yes " + said.partition(" nodes ")[0]:
+        differs((verdicts.form, verdicts.text, text), (said, status), (due, 0))
+    for _ in range(8):
+        verdicts.compare(nudged(text))
 
 
 def check(program):
-    for form, certificate in [(PAIR, BEST), (RING, SPLIT), (RING, BOTH)]:
-        inst, original = Instance(form), certificate.encode()
-        program.write("a", form.encode())
-        changed = [original.replace(old, new) for old, new in CHANGES]
-        for text in [*changed, *texts(original, PIECES, 600)]:
-            compare(program, text, verdict(inst, text))
+    verdicts = Verdicts(program)
+    for form, text, certificate in FILES:
+        verdicts.take(form, text.encode())
+        original = certificate.encode()
+        for changed in [original.replace(old, new) for old, new in CHANGES] + [nudged(original) for _ in range(NUDGED)]:
+            verdicts.compare(changed)
+        for changed in texts(original, PIECES, CHANGED):
+            verdicts.compare(changed)
     # Longer than the limit: a first line with a fault, and one without an end. What follows is a hole in the file.
     for front, due, status in [(b"x\n", "no BadLine line 1\n", 3), (b"x", "too large certificate\n", 8)]:
         program.write("k", front)
         with open(program.at("k"), "r+b") as file:
             file.truncate(MAX_BYTES + 1)
-        program.expect(due, status, front, "check", "ufl", "a", "k")
-    return f"certificates: {program.asked} verdicts agree"
+        program.expect(due, status, front, "check", "pmed", "a", "k")
+    for _ in range(RANDOM):
+        take_some(verdicts)
+        verdicts.compare(some_certificate(verdicts.inst, verdicts.traits))
+    for _ in range(SEARCHES):
+        take_some(verdicts)
+        searched(verdicts, program)
+    missing = [it for it in [*DUE, *verdicts.traits] if not (verdicts.found + verdicts.traits)[it]]
+    if missing or len(verdicts.traits) < 4:
+        sys.exit(f"check: no verdict among {program.asked} has {missing}")
+    told = ", ".join(f"{count} with {name}" for name, count in verdicts.traits.items())
+    return f"certificates: {program.asked - SEARCHES} verdicts agree, {SEARCHES} of them on searches; of {RANDOM} random trees {told}"
 
 
 if __name__ == "__main__":

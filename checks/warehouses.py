@@ -29,6 +29,8 @@ class Warehouses:
         customers = [(reader.amount(), [reader.amount() for _ in range(m)]) for _ in range(n)]
         reader.finish()
         self.fixed = [fixed for _, fixed in sites]
+        self.capacities = [limit for limit, _ in sites]
+        self.demands = [demand for demand, _ in customers]
         self.lanes = [[row[i] for _, row in customers] for i in range(m)]
         # The lanes that are left where a customer has to fit into its site.
         self.allowed = [[cost if form == "uncap" or demand <= limit else None for cost, (demand, _) in zip(row, customers)]
