@@ -1,6 +1,10 @@
 pub mod PlaceLemmas
 pub mod StoredLemmas
-pub mod StatusLemmas
+pub mod SiteLemmas
+pub mod LaneTables
+pub mod ColumnChanges
+pub mod ChangeLemmas
 pub mod PlainParts
 pub mod NumberedLists
 pub mod ColumnSteps
+pub mod NewPlaces

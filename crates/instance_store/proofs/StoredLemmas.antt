@@ -17,18 +17,19 @@ use Rattle.instance_store.specs.declared.instance.Instance.TheInside.{Inside}
 use Rattle.instance_store.specs.Small.{IsSmall, AreSmall}
 use Rattle.instance_store.specs.Parts.{site_of, customer_of, site_row_ids, cust_row_ids, instance_of, AreParts}
 use Rattle.instance_store.specs.Places.{lanes_from, place_of}
+use Rattle.instance_store.specs.Changes.{site_row}
 use Rattle.instance_store.specs.Stored.{site_in, free_site, stored_ids, stored_rows, stored_instance, IsStored}
 use Rattle.instance_store.proofs.PlaceLemmas.{position-turned, place_of_found, place_of_known}
 
 -- the ids of the rows are those of the instance
-site_ids-stored : (a : Inside) → site_ids (stored_instance a) ≡ stored_ids a.sites.items
+pub site_ids-stored : (a : Inside) → site_ids (stored_instance a) ≡ stored_ids a.sites.items
 site_ids-stored a = map-map (λ s. s.id) site_in a.sites.items
 
-customer_ids-stored : (a : Inside) → customer_ids (stored_instance a) ≡ cust_row_ids a.custs.items
+pub customer_ids-stored : (a : Inside) → customer_ids (stored_instance a) ≡ cust_row_ids a.custs.items
 customer_ids-stored a = map-map (λ c. c.id) customer_of a.custs.items
 
 -- the rows are a table
-table-stored : (a : Inside) → IsStored a → IsTable (stored_ids a.sites.items) (cust_row_ids a.custs.items) (stored_rows a.sites.items)
+pub table-stored : (a : Inside) → IsStored a → IsTable (stored_ids a.sites.items) (cust_row_ids a.custs.items) (stored_rows a.sites.items)
 table-stored a stored = record {
   sites_rise = subst IsStrictlyIncreasing (site_ids-stored a) stored.valid.sites_named.rising;
   customers_rise = subst IsStrictlyIncreasing (customer_ids-stored a) stored.valid.customers_named.rising;
@@ -81,6 +82,18 @@ module _ (a : Inside) (stored : IsStored a) (I : Instance) (view : stored_instan
   pub lanes-seen : (i : ℕ) (x : StoredSite) → i < length I.sites → x ≡ slice_index_or a.sites.items i x → x.row.lanes ≡ lanes_from I (site_at I i)
   lanes-seen i x within item =
       subst (λ (J : Instance). x.row.lanes ≡ lanes_from J (site_at J i)) view (lanes-stored a stored i x (omega (arith, within, sites-seen)) item)
+
+  pub site-seen : (i : ℕ) (x : StoredSite) → i < length I.sites → x ≡ slice_index_or a.sites.items i x → site_in x ≡ site_at I i
+  site-seen i x within item = ap site_in item ∙ sym (get_or-map site_in a.sites.items i x _ (omega (arith, within, sites-seen))) ∙ ap (λ (J : Instance). site_at J i) view
+
+  pub site_row-seen : (i : ℕ) (x : StoredSite) → i < length I.sites → x ≡ slice_index_or a.sites.items i x → x.row ≡ site_row I (site_at I i)
+  site_row-seen i x within item =
+      let site : site_in x ≡ site_at I i = site-seen i x within item in
+      let lanes = lanes-seen i x within item in
+      λ k. record { id = (site k).id; fixed = (site k).fixed; cap = (site k).cap; lanes = lanes k }
+
+  pub customer-seen : (j : ℕ) (x : CustRow) → j < length I.customers → x ≡ slice_index_or a.custs.items j x → customer_of x ≡ customer_at I j
+  customer-seen j x inside item = ap customer_of item ∙ sym (get_or-map customer_of a.custs.items j x _ (omega (arith, inside, customers-seen))) ∙ ap (λ (J : Instance). customer_at J j) view
 
   pub fixed-small : (i : ℕ) (x : StoredSite) → i < length I.sites → x ≡ slice_index_or a.sites.items i x → x.row.fixed ≤ MAX_AMOUNT
   fixed-small i x within item =

@@ -4,6 +4,5 @@ pub mod Parts
 pub mod Numbered
 pub mod Places
 pub mod Stored
-pub mod Statuses
-pub mod Edits
-pub mod Undo
+pub mod Changes
+pub mod Columns

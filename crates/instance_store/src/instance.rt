@@ -4,8 +4,9 @@ ghost use Rattle.location_terms.specs.Instance.{site_at, customer_at, site_ids, 
 ghost use Rattle.instance_store.specs.Small.{IsSmall, AreSmall};
 ghost use Rattle.instance_store.specs.Parts.{instance_of, AreParts};
 ghost use Rattle.instance_store.specs.Places.{lanes_from, place_of};
-ghost use Rattle.instance_store.specs.Statuses.{with_status};
 ghost use Rattle.instance_store.specs.Stored.{free_site};
+
+mod changes;
 
 use crate::index::{cust_places, site_places};
 use crate::{CustId, CustRow, LaneRow, NoMemory, SiteId, SiteRow, SiteStatus};
@@ -165,15 +166,6 @@ impl Instance {
         ensures { result ≡ (site_at self.now i).status }
     {
         self.sites[i].status
-    }
-
-    /// Settles the site at place `site`, counted from 0: whether it must be open, must be closed, or
-    /// may be either. It takes no memory.
-    pub fn set_status(&mut self, site: usize, status: SiteStatus)
-        requires { site < length self.old.sites }
-        ensures { self.new ≡ with_status self.old site status }
-    {
-        self.sites[site].status = status;
     }
 
     /// The id of the customer at place `j`.

@@ -3,14 +3,12 @@
 //! whose lanes are a map from pairs of ids, and each one is valid.
 #![tactic(auto)]
 
-mod edit;
 mod index;
 mod instance;
 mod memory;
 mod numbered;
 mod rows;
 
-pub use edit::{Edit, EditFault, Inverse, Touch};
 pub use instance::Instance;
 pub use location_terms::{CustId, SiteId, SiteStatus};
 pub use memory::NoMemory;

@@ -1,8 +1,17 @@
-use Rattle.instance_store.proofs.StatusLemmas.{stored-with_status, IsStored-with_status}
+use Rattle.std.proofs.Common.{refl}
+use Rattle.location_terms.specs.Instance.{Site}
+use Rattle.instance_store.specs.declared.instance.StoredSite.{StoredSite}
+use Rattle.instance_store.proofs.SiteLemmas.{stored-with_site, IsStored-with_site}
+use Rattle.instance_store.proofs.StoredLemmas.{fixed-small, cap-small}
 use Rattle.instance_store.proofs.instance.Instance.set_status.Goals as goal
 
 pub invariant_of-self : goal.invariant_of-self
-invariant_of-self c = IsStored-with_status c.self.inside c.self.invariant c.args.self.now c.self.view_is c.args.site c.index_mut.result.now c.args.status c.requires c.index_mut.ensures.value
+invariant_of-self c =
+    let y : StoredSite = record { row = c.index_mut.result.now.row; status = c.args.status } in
+    IsStored-with_site c.self.inside c.self.invariant c.args.self.now c.self.view_is c.args.site c.index_mut.result.now y (λ (s : Site). record s { status = c.args.status }) c.requires c.index_mut.ensures.value refl refl refl
+    (fixed-small c.self.inside c.self.invariant c.args.self.now c.self.view_is c.args.site c.index_mut.result.now c.requires c.index_mut.ensures.value) (cap-small c.self.inside c.self.invariant c.args.self.now c.self.view_is c.args.site c.index_mut.result.now c.requires c.index_mut.ensures.value)
 
 pub returns : goal.returns
-returns c = stored-with_status c.self.inside c.self.invariant c.args.self.now c.self.view_is c.args.site c.index_mut.result.now c.args.status c.requires c.index_mut.ensures.value
+returns c =
+    let y : StoredSite = record { row = c.index_mut.result.now.row; status = c.args.status } in
+    stored-with_site c.self.inside c.self.invariant c.args.self.now c.self.view_is c.args.site c.index_mut.result.now y (λ (s : Site). record s { status = c.args.status }) c.requires c.index_mut.ensures.value refl refl refl
