@@ -1,5 +1,4 @@
--- Of calls that are yet to come: no public contract cites this page.
--- A plan that is carried over to an instance that was edited.
+-- A plan that is carried over to an instance that was edited. What a search is handed (IsHanded, target_in) is of calls that are yet to come.
 use Rattle.std.specs.Prelude.{◌≡◌, ◌⊎◌, ◌==◌, ℕ, Bool, ◌&&◌, ◌||◌, not, List, map, filter, filter_map, find, Option, None, Some, option_map, is_some, unwrap_or, nat_lt, if◌then◌else◌}
 use Rattle.std.specs.List.{list_any, reduce}
 use Rattle.std.specs.Option.{option_or}

@@ -3,3 +3,4 @@ pub mod Tested
 pub mod Served
 pub mod Sums
 pub mod Faults
+pub mod Carrying

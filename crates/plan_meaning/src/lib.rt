@@ -3,6 +3,7 @@
 #![tactic(auto)]
 
 mod amounts;
+mod carried;
 mod fault;
 mod judging;
 mod parts;
@@ -12,3 +13,6 @@ pub use amounts::{cost, fixed_cost, lane_used, load};
 pub use fault::PlanFault;
 pub use judging::judge;
 pub use plan::Plan;
+
+#[cfg(test)]
+mod tests;

@@ -1,9 +1,13 @@
-ghost use Rattle.std.specs.Prelude.{◌≡◌, ℕ, ◌+◌, ◌<◌, ◌↔◌, map, length, Contains, IsTrue, SomeIff, slice_index, slice_index_or};
+ghost use Rattle.std.specs.Prelude.{◌≡◌, ℕ, ◌+◌, ◌<◌, ◌==◌, ◌↔◌, map, length, find, option_map, Contains, IsTrue, IfOk, SomeIff, slice_index, slice_index_or};
 ghost use Rattle.std.specs.List.Sorted.{IsStrictlyIncreasing};
+ghost use Rattle.location_terms.specs.Carried.{carried_plan};
 ghost use Rattle.location_terms.specs.Plan.{IsPlan};
 ghost use Rattle.plan_meaning.specs.Plan.{plan_of, serve_at};
 
+use crate::carried::{carried_serves, carried_sites};
+use instance_store::{Instance, NoMemory};
 use location_terms::{CustId, SiteId};
+use std::alloc::Global;
 use std::marker::Model;
 
 /// Which sites are open, and from which site each customer is served.
@@ -79,6 +83,29 @@ impl Plan {
         ensures { IsTrue result ↔ Contains self.now.sites id }
     {
         self.sites.binary_search(&id).is_ok()
+    }
+
+    /// The site that serves the customer, and `None` where the plan doesn't serve it.
+    pub fn server(&self, id: CustId) -> Option<SiteId>
+        ensures plan { IsPlan self.now }
+        ensures exact { result ≡ option_map (λ v. v.1) (find (λ v. v.0 == id) self.now.serves) }
+    {
+        let k = self.serves.partition_point(|serve| serve.0 < id);
+        let (cust, site) = *self.serves.get(k)?;
+        if cust == id { Some(site) } else { None }
+    }
+
+    /// The plan carried over to an instance that was edited: of its open sites those that are still
+    /// there and that no status closes, and those that must be open; and each customer served as
+    /// before, where that is possible, else over its cheapest lane from an open site, and left out
+    /// where there is no such lane. Nothing is asked of capacities and of the number of open sites.
+    /// It fails only where memory runs out.
+    pub fn carried(&self, alloc: Global, inst: &Instance) -> Result<Plan, NoMemory>
+        ensures { IfOk result (λ P. P ≡ carried_plan inst.now self.now) }
+    {
+        let sites = carried_sites(alloc, inst, self)?;
+        let serves = carried_serves(alloc, inst, self, &sites)?;
+        Ok(Plan { sites, serves })
     }
 }
 
