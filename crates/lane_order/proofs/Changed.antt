@@ -11,10 +11,10 @@ use Rattle.location_terms.proofs.Rising.{one_place}
 use Rattle.lane_order.specs.declared.order.PlacedLane.{PlacedLane}
 use Rattle.lane_order.specs.Order.{Order, IsBefore, AreLanesTo, IsOrderOf, lanes_to}
 use Rattle.lane_order.specs.Placed.{named}
-use Rattle.lane_order.specs.Listed.{Listed, IsPlacedBefore, IsLaneFrom, HaveSameOthers}
+use Rattle.lane_order.specs.Listed.{Listed, IsPlacedBefore, IsLaneFrom, HaveSameOthers, IsList}
 use Rattle.lane_order.specs.Changed.{IsLaneTo, DifferInLane}
 use Rattle.lane_order.specs.declared.order.LaneOrder.TheInside.{Inside}
-use Rattle.lane_order.specs.Stored.{stored_order, IsStored, IsList}
+use Rattle.lane_order.specs.Stored.{stored_order, IsStored}
 use Rattle.lane_order.proofs.Replaced.{from_site}
 
 abbrev no_lane : PlacedLane
@@ -26,19 +26,19 @@ module _ (ids : List ℕ) (rise : IsStrictlyIncreasing ids) where
   one_site i k b c same = one_place (λ (n : ℕ). n) ids 0 (subst IsStrictlyIncreasing (sym (map-id ids)) rise) i k b c same
 
   module _ (lanes : List PlacedLane) (known : All (λ l. l.site < length ids) lanes) where
-    known_at : (l : PlacedLane) → Contains lanes l → l.site < length ids
+    pub known_at : (l : PlacedLane) → Contains lanes l → l.site < length ids
     known_at l k = subst (λ (m : PlacedLane). m.site < length ids) k.2 (known k.0 l k.1)
 
-    named_there : (l : PlacedLane) → Contains lanes l → Contains (map (named ids) lanes) (named ids l)
+    pub named_there : (l : PlacedLane) → Contains lanes l → Contains (map (named ids) lanes) (named ids l)
     named_there l k = (k.0, omega (arith, k.1, length-map lanes (named ids)), get_or-map (named ids) lanes k.0 l (named ids l) k.1 ∙ ap (named ids) k.2)
 
-    placed_there : (m : ℕ × ℕ) → Contains (map (named ids) lanes) m → (l : PlacedLane) × Contains lanes l × (named ids l ≡ m)
+    pub placed_there : (m : ℕ × ℕ) → Contains (map (named ids) lanes) m → (l : PlacedLane) × Contains lanes l × (named ids l ≡ m)
     placed_there m k =
         let b : k.0 < length lanes = omega (arith, k.1, length-map lanes (named ids)) in
         let l = get_or lanes k.0 no_lane in
         (l, (k.0, b, get_or_default lanes k.0 l no_lane b), sym (get_or-map (named ids) lanes k.0 no_lane m b) ∙ k.2)
 
-    named_ascend : AllPairs IsPlacedBefore lanes → AllPairs IsBefore (map (named ids) lanes)
+    pub named_ascend : AllPairs IsPlacedBefore lanes → AllPairs IsBefore (map (named ids) lanes)
     named_ascend ascending i k d below within =
         let inside : k < length lanes = omega (arith, within, length-map lanes (named ids)) in
         let a = get_or lanes i no_lane in

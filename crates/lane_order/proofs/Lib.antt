@@ -8,3 +8,10 @@ pub mod Spread
 pub mod Placing
 pub mod Replaced
 pub mod Changed
+pub mod Skipped
+pub mod Customers
+pub mod Shifted
+pub mod Sites
+pub mod OneByOne
+pub mod StoredSites
+pub mod StoredCustomers

@@ -1,17 +1,18 @@
 -- The lists of the customers while they are made and while they get more room, and what they are in the end.
-use Rattle.std.proofs.Common.{◌≡◌, ℕ, ◌+◌, ◌<◌, ◌≤◌, suc, inl, inr, ◌∷◌, ◌++◌, List, [], map, length, take, drop, max, All, AllPairs, get_or, refl, sym, ap, subst, ◌∙◌, arith}
+use Rattle.std.proofs.Common.{◌≡◌, ℕ, ◌+◌, ◌-◌, ◌<◌, ◌≤◌, suc, inl, inr, ◌∷◌, ◌++◌, List, [], map, length, take, drop, vec_len, vec_capacity, All, AllPairs, get_or, refl, sym, ap, subst, ◌∙◌, arith}
 use Rattle.std.proofs.lemmas.Bool.{cases_eq}
 use Rattle.std.proofs.lemmas.List.{length-map, take-append-le, take_all, get_or-map, get_or_push, get_or_append_left}
+use Rattle.std.proofs.lemmas.List.Elements.{All-nil}
 use Rattle.std.specs.List.Sorted.{IsStrictlyIncreasing}
 use Rattle.location_terms.specs.Instance.{Instance, IsValid, customer_at, site_ids}
 use Rattle.location_terms.proofs.Places.{length-site_ids}
 use Rattle.lane_order.specs.declared.order.LaneOrder.TheInside.{Inside}
 use Rattle.lane_order.specs.Order.{Order, AreLanesTo, IsOrderOf, lanes_to}
 use Rattle.lane_order.specs.Placed.{named}
-use Rattle.lane_order.specs.Listed.{Listed, IsPlacedBefore}
+use Rattle.lane_order.specs.Listed.{Listed, IsPlacedBefore, IsList, IsFresh}
 use Rattle.lane_order.specs.declared.order.PlacedLane.{PlacedLane}
 use Rattle.lane_order.specs.Grown.{HaveGrown}
-use Rattle.lane_order.specs.Stored.{stored_order, IsStored, IsList}
+use Rattle.lane_order.specs.Stored.{stored_order, IsStored}
 use Rattle.lane_order.specs.Building.{AreSortedLanes, AreListsOf}
 use Rattle.lane_order.proofs.Ranked.{lanes_known, lanes_ascend, AreLanesTo-sorted}
 
@@ -39,8 +40,16 @@ module _ (a : Inside) (I : Instance) (ids : a.site_ids.items ≡ site_ids I) (of
         room = omega (arith, none);
       }
 
-  pub IsStored-lists : IsValid I → a.spare ≡ 0 → IsStored a
-  IsStored-lists valid none = record { rising = subst IsStrictlyIncreasing (sym ids) valid.sites_named.rising; lists = each_list none }
+  pub IsStored-lists : IsValid I → a.spare ≡ 0 → a.fresh.items ≡ [] → IsStored a
+  IsStored-lists valid none empty = record {
+    rising = subst IsStrictlyIncreasing (sym ids) valid.sites_named.rising;
+    few = omega (arith, ap length ids, length-site_ids I, valid.sizes.few_sites);
+    lists = each_list none;
+    fresh = subst (All (IsFresh (length a.site_ids.items + a.spare))) (sym empty) (All-nil (IsFresh (length a.site_ids.items + a.spare)));
+    site_room = omega (arith, none);
+    list_room = omega (arith, none);
+    fresh_room = omega (arith, none);
+  }
 
   pub IsOrderOf-lists : IsValid I → IsOrderOf (stored_order a) I
   IsOrderOf-lists valid =
@@ -94,27 +103,57 @@ grown_lanes f (x ∷ xs) (y ∷ ys) grown =
 pub written_whole : {X : Type 0} (old new : List X) (n : ℕ) → n ≡ length old → length new ≡ length old → take n (new ++ drop (length new) old) ≡ new
 written_whole old new n room long = take-append-le n new (drop (length new) old) (omega (arith, room, long)) ∙ take_all n new (omega (arith, room, long))
 
--- an order whose lists have more room
-module _ (a : Inside) (start new : List Listed) (n : ℕ) (is : start ≡ a.lists.items) (long : length start ≡ n) (more : HaveGrown start new) where
-  grown : HaveGrown a.lists.items new
-  grown = subst (λ xs. HaveGrown xs new) is more
+-- an order with more room
+module _ (a : Inside) (stored : IsStored a) (new : List Listed) (grown : HaveGrown a.lists.items new) where
+  pub lanes_kept : (ids : List ℕ) (order : Order) → ids ≡ a.site_ids.items → stored_order a ≡ order → map (λ l. map (named ids) l.lanes) new ≡ order.lanes
+  lanes_kept ids order same view =
+      ap (λ ns. map (λ (l : Listed). map (named ns) l.lanes) new) same ∙ grown_lanes (map (named a.site_ids.items)) a.lists.items new grown ∙ ap (λ (o : Order). o.lanes) view
 
-  whole : take n (new ++ drop (length new) a.lists.items) ≡ new
-  whole = written_whole a.lists.items new n (sym long ∙ ap length is) grown.count
+  pub room_kept : All (λ l. a.spare ≤ l.spare) new
+  room_kept k d below = let within : k < length a.lists.items = omega (arith, below, grown.count) in omega (arith, (stored.lists k d within).room, (grown.each k d within).room)
 
-  pub lanes_reserved : (order : Order) → stored_order a ≡ order → map (λ l. map (named a.site_ids.items) l.lanes) (take n (new ++ drop (length new) a.lists.items)) ≡ order.lanes
-  lanes_reserved order view =
-      let f = map (named a.site_ids.items) in
-      ap (λ (ls : List Listed). map (λ l. f l.lanes) ls) whole ∙ grown_lanes f a.lists.items new grown ∙ ap (λ (o : Order). o.lanes) view
-
-  pub lists_reserved : (room spare : ℕ) → IsStored a → All (λ l. room ≤ l.spare) new → spare ≡ max a.spare room → All (IsList (length a.site_ids.items) spare) (take n (new ++ drop (length new) a.lists.items))
-  lists_reserved room spare stored there greatest =
-      subst (All (IsList (length a.site_ids.items) spare)) (sym whole) (λ k d below.
+  lists_wide : (spare : ℕ) → All (λ l. spare ≤ l.spare) new → All (IsList (length a.site_ids.items) spare) new
+  lists_wide spare there k d below =
       let within : k < length a.lists.items = omega (arith, below, grown.count) in
-      let l = grown.each k d within in
+      let more = grown.each k d within in
       let was = stored.lists k d within in
       record {
-        known = subst (All (λ lane. lane.site < length a.site_ids.items)) (sym l.lanes) was.known;
-        ascending = subst (AllPairs IsPlacedBefore) (sym l.lanes) was.ascending;
-        room = omega (arith, greatest, was.room, l.room, there k d below);
-      })
+        known = subst (All (λ lane. lane.site < length a.site_ids.items)) (sym more.lanes) was.known;
+        ascending = subst (AllPairs IsPlacedBefore) (sym more.lanes) was.ascending;
+        room = there k d below;
+      }
+
+  pub IsStored-wide : (b : Inside) → b.site_ids.items ≡ a.site_ids.items → b.lists.items ≡ new → All (λ l. b.spare ≤ l.spare) new → All (IsFresh (length a.site_ids.items + b.spare)) b.fresh.items
+      → b.spare ≤ vec_capacity b.site_ids - vec_len b.site_ids → b.spare ≤ vec_capacity b.lists - vec_len b.lists → b.spare ≤ vec_len b.fresh → IsStored b
+  IsStored-wide b ids are wide fresh site_room list_room fresh_room = record {
+    rising = subst IsStrictlyIncreasing (sym ids) stored.rising;
+    few = omega (arith, ap (λ (xs : List ℕ). length xs) ids, stored.few);
+    lists = subst (λ (p : List ℕ × List Listed). All (IsList (length p.0) b.spare) p.1) (λ k. (sym ids k, sym are k)) (lists_wide b.spare wide);
+    fresh = subst (λ (ns : List ℕ). All (IsFresh (length ns + b.spare)) b.fresh.items) (sym ids) fresh;
+    site_room = site_room;
+    list_room = list_room;
+    fresh_room = fresh_room;
+  }
+
+-- empty lists with more room
+pub fresh_grown : (old new : List Listed) → HaveGrown old new → (room : ℕ) → All (IsFresh room) old → All (IsFresh room) new
+fresh_grown old new grown room fresh = λ k d b.
+    let was = fresh k d (omega (arith, b, grown.count)) in
+    let more = grown.each k d (omega (arith, b, grown.count)) in
+    record { empty = more.lanes ∙ was.empty; room = omega (arith, was.room, more.room) }
+
+pub fresh_wide : (old new : List Listed) → HaveGrown old new → (lanes : ℕ) → All (λ l. lanes ≤ l.spare) new → All (IsFresh 0) old → All (IsFresh lanes) new
+fresh_wide old new grown lanes wide fresh = λ k d b.
+    let was = fresh k d (omega (arith, b, grown.count)) in
+    let more = grown.each k d (omega (arith, b, grown.count)) in
+    record { empty = more.lanes ∙ was.empty; room = wide k d b }
+
+-- what holds of the lists with more room holds of those that are written back
+pub written : (Q : List Listed → Type 0) (old start new : List Listed) (n : ℕ) → start ≡ old → length start ≡ n → HaveGrown start new → (HaveGrown old new → Q new) → Q (take n (new ++ drop (length new) old))
+written Q old start new n is long more holds =
+    let grown : HaveGrown old new = subst (λ xs. HaveGrown xs new) is more in
+    subst Q (sym (written_whole old new n (sym long ∙ ap length is) grown.count)) (holds grown)
+
+-- room for more is room for less
+pub fresh_less : (more less : ℕ) (lists : List Listed) → less ≤ more → All (IsFresh more) lists → All (IsFresh less) lists
+fresh_less more less lists fewer fresh = λ k d b. let was = fresh k d b in record { empty = was.empty; room = omega (arith, was.room, fewer) }

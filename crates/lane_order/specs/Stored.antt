@@ -1,20 +1,21 @@
--- How an order is stored: for each customer a list of lanes by the places of their sites, each list with room for more.
-use Rattle.std.specs.Prelude.{ℕ, ◌<◌, ◌≤◌, map, length, All, AllPairs}
+-- How an order is stored: for each customer a list of lanes by the places of their sites, each list with room for more, and
+-- empty lists for customers to come.
+use Rattle.std.specs.Prelude.{◌+◌, ◌-◌, ◌≤◌, map, length, All, vec_len, vec_capacity}
 use Rattle.std.specs.List.Sorted.{IsStrictlyIncreasing}
+use Rattle.location_terms.specs.declared.limits.TheConstants.{MAX_SITES}
 use Rattle.lane_order.specs.Order.{Order}
 use Rattle.lane_order.specs.Placed.{named}
-use Rattle.lane_order.specs.Listed.{Listed, IsPlacedBefore}
+use Rattle.lane_order.specs.Listed.{IsList, IsFresh}
 use Rattle.lane_order.specs.declared.order.LaneOrder.TheInside.{Inside}
 
 abbrev pub stored_order : Inside → Order
 stored_order a = record { sites = a.site_ids.items; lanes = map (λ l. map (named a.site_ids.items) l.lanes) a.lists.items; spare = a.spare }
 
--- lanes from so many sites in order, with room for so many more
-pub record IsList (sites spare : ℕ) (l : Listed) : Type 0 where
-  pub known : All (λ lane. lane.site < sites) l.lanes
-  pub ascending : AllPairs IsPlacedBefore l.lanes
-  pub room : spare ≤ l.spare
-
 pub record IsStored (a : Inside) : Type 0 where
   pub rising : IsStrictlyIncreasing a.site_ids.items
+  pub few : length a.site_ids.items ≤ MAX_SITES
   pub lists : All (IsList (length a.site_ids.items) a.spare) a.lists.items
+  pub fresh : All (IsFresh (length a.site_ids.items + a.spare)) a.fresh.items
+  pub site_room : a.spare ≤ vec_capacity a.site_ids - vec_len a.site_ids
+  pub list_room : a.spare ≤ vec_capacity a.lists - vec_len a.lists
+  pub fresh_room : a.spare ≤ vec_len a.fresh

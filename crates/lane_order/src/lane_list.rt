@@ -1,10 +1,12 @@
 //! The lanes to one customer, and the room for more.
-ghost use Rattle.std.specs.Prelude.{◌≡◌, ◌≢◌, ◌+◌, ◌<◌, ◌≤◌, length, All, AllPairs, Contains, IfOk, OnOk, vec_len, vec_capacity};
+ghost use Rattle.std.specs.Prelude.{◌≡◌, ◌≢◌, ◌+◌, ◌<◌, ◌≤◌, length, map, filter, All, AllPairs, Contains, IfOk, OnOk, vec_len, vec_capacity};
 ghost use Rattle.std.specs.List.Sorted.{IsPartitionPoint};
 ghost use Rattle.lane_order.specs.Grown.{IsGrown, HaveGrown};
-ghost use Rattle.lane_order.specs.Listed.{IsPlacedBefore, IsNotBefore, is_placed_before, IsWith, IsWithout, IsLaneFrom, HaveSameOthers};
+ghost use Rattle.lane_order.specs.Listed.{IsPlacedBefore, IsNotBefore, is_placed_before, IsWith, IsWithout, IsLaneFrom, HaveSameOthers, IsList, IsFresh, HasLaneMore, HasLaneLess, IsFilled, lane_up, lane_down, is_elsewhere};
+ghost use Rattle.location_terms.specs.declared.limits.TheConstants.{MAX_SITES};
 
-use crate::{NoMemory, PlacedLane};
+use crate::shifting::{shift_down, shift_up};
+use crate::{LaneRow, NoMemory, PlacedLane};
 use std::alloc::Global;
 use std::marker::Model;
 
@@ -32,6 +34,15 @@ impl LaneList {
     {
         Ok(LaneList {
             lanes: Vec::from_slice(alloc, lanes)?,
+        })
+    }
+
+    /// An empty list with room for so many lanes. It fails only where memory runs out.
+    pub(crate) fn with_capacity(alloc: Global, lanes: usize) -> Result<LaneList, NoMemory>
+        ensures { IfOk result (IsFresh lanes) }
+    {
+        Ok(LaneList {
+            lanes: Vec::with_capacity(alloc, lanes)?,
         })
     }
 
@@ -64,6 +75,58 @@ impl LaneList {
     {
         self.drop_lane(site, old);
         self.add_lane(site, new);
+    }
+
+    /// A site comes in at a place, with its lane to the customer. It takes no memory.
+    pub(crate) fn insert_site(&mut self, place: u32, lane: Option<u64>)
+        requires { IsList MAX_SITES 1 self.old }
+        ensures { HasLaneMore place lane self.old self.new }
+    {
+        self.shift_up(place);
+        self.add_lane(place, lane);
+    }
+
+    /// The site at a place goes, with its lane where it has one.
+    pub(crate) fn remove_site(&mut self, place: u32)
+        requires { AllPairs IsPlacedBefore self.old.lanes }
+        ensures { HasLaneLess place self.old self.new }
+    {
+        self.drop_from(place);
+        self.shift_down(place);
+    }
+
+    /// Fills an empty list with these lanes, each from the site at its place. It takes no memory.
+    pub(crate) fn fill(&mut self, lanes: &LaneRow)
+        requires few { length lanes.now ≤ MAX_SITES }
+        requires fresh { IsFresh (length lanes.now) self.old }
+        ensures { IsFilled lanes.now self.old self.new }
+    {
+        for site in 0..lanes.len() {
+            self.add_lane(site as u32, lanes.get(site));
+        }
+    }
+
+    fn shift_up(&mut self, place: u32)
+        requires { All (λ lane. lane.site < MAX_SITES) self.old.lanes }
+        ensures lanes { self.new.lanes ≡ map (lane_up place) self.old.lanes }
+        ensures spare { self.new.spare ≡ self.old.spare }
+    {
+        shift_up(&mut self.lanes, place);
+    }
+
+    fn shift_down(&mut self, place: u32)
+        ensures lanes { self.new.lanes ≡ map (lane_down place) self.old.lanes }
+        ensures spare { self.new.spare ≡ self.old.spare }
+    {
+        shift_down(&mut self.lanes, place);
+    }
+
+    // Takes out the lane from the site at a place, where there is one.
+    fn drop_from(&mut self, place: u32)
+        ensures lanes { self.new.lanes ≡ filter (is_elsewhere place) self.old.lanes }
+        ensures spare { self.old.spare ≤ self.new.spare }
+    {
+        self.lanes.retain(|lane| lane.site != place);
     }
 
     fn drop_lane(&mut self, site: u32, lane: Option<u64>)

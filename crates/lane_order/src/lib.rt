@@ -3,10 +3,12 @@
 #![tactic(auto)]
 
 mod build;
+mod edits;
 mod lane_list;
 mod order;
+mod shifting;
 
-pub use instance_store::{Instance, NoMemory};
+pub use instance_store::{Instance, LaneRow, NoMemory};
 pub use location_terms::SiteId;
 pub use order::{LaneOrder, PlacedLane};
 

@@ -1,14 +1,16 @@
 //! The order of the lanes, and what is read of it.
-ghost use Rattle.std.specs.Prelude.{◌≡◌, ◌+◌, ◌<◌, ◌≤◌, length, map, slice_index, All, IfOk, OnOk};
-ghost use Rattle.std.specs.List.Sorted.{IsNonDecreasingBy};
+ghost use Rattle.std.specs.Prelude.{◌≡◌, ℕ, ◌+◌, ◌<◌, ◌≤◌, List, Option, length, map, insert, slice_index, All, IfOk, OnOk};
+ghost use Rattle.std.specs.List.Sorted.{IsNonDecreasingBy, IsStrictlyIncreasing};
+ghost use Rattle.location_terms.specs.declared.limits.TheConstants.{MAX_SITES};
 ghost use Rattle.location_terms.specs.Instance.{Instance as Meaning, IsValid};
-ghost use Rattle.lane_order.specs.Changed.{IsLaneTo, DifferInLane};
+ghost use Rattle.lane_order.specs.Changed.{IsLaneTo, DifferInLane, HasSiteMore, HasCustMore};
 ghost use Rattle.lane_order.specs.Order.{IsOrderOf, lanes_to, lane_at, next_above};
 ghost use Rattle.lane_order.specs.Placed.{named};
 
 use crate::build::{lane_lists, site_ids};
-use crate::lane_list::{LaneList, reserve_each};
-use crate::{Instance, NoMemory, SiteId};
+use crate::edits::{insert_site, keep_fresh, put_id, put_list, remove_site, take_fresh, widen};
+use crate::lane_list::LaneList;
+use crate::{Instance, LaneRow, NoMemory, SiteId};
 use std::alloc::Global;
 use std::marker::Model;
 
@@ -29,7 +31,9 @@ pub struct PlacedLane {
 pub struct LaneOrder {
     site_ids: Vec<SiteId>,
     lists: Vec<LaneList>,
-    // Each list has room for at least so many more lanes.
+    // Empty lists for customers to come, each with room for the lanes of all sites and those to come.
+    fresh: Vec<LaneList>,
+    // There is room for at least so many more lanes in each list, sites and customers.
     spare: usize,
 }
 
@@ -55,20 +59,26 @@ impl LaneOrder {
         Ok(LaneOrder {
             site_ids,
             lists,
+            fresh: Vec::new(alloc),
             spare: 0,
         })
     }
 
-    /// Makes room for so many more lanes to each customer, which one after the other may then come
-    /// without memory. The order stays. It fails only where memory runs out.
+    /// Makes room for so many changes, which one after the other may then be made without memory: in
+    /// each a lane is replaced, or a site or a customer comes in. The order stays. It fails only where
+    /// memory runs out.
     pub fn reserve(&mut self, more: usize) -> Result<(), NoMemory>
         ensures sites { self.new.sites ≡ self.old.sites }
         ensures lanes { self.new.lanes ≡ self.old.lanes }
         ensures grown { self.old.spare ≤ self.new.spare }
         ensures room { OnOk result (more ≤ self.new.spare) }
     {
-        reserve_each(&mut self.lists, more)?;
-        self.spare = self.spare.max(more);
+        let spare = self.spare.max(more);
+        widen(&mut self.lists, spare)?;
+        self.site_ids.reserve(spare)?;
+        let alloc = *self.fresh.allocator();
+        keep_fresh(alloc, &mut self.fresh, spare, self.site_ids.len() + spare)?;
+        self.spare = spare;
         Ok(())
     }
 
@@ -85,6 +95,60 @@ impl LaneOrder {
     {
         self.lists[cust].set(site, old, new);
         self.spare -= 1;
+    }
+
+    /// A site comes in at a place, with its id and its lanes to the customers by their places: the sites
+    /// from there on come one place behind. It takes no memory. The order is then that of an instance with
+    /// that site.
+    pub fn insert_site(&mut self, place: usize, id: SiteId, lanes: &LaneRow)
+        requires place { place ≤ length self.old.sites }
+        requires few { length self.old.sites < MAX_SITES }
+        requires rising { IsStrictlyIncreasing (insert self.old.sites place id) }
+        requires lanes { length lanes.now ≡ length self.old.lanes }
+        requires room { 0 < self.old.spare }
+        ensures order { (I J : Meaning) → IsValid I → IsValid J → IsOrderOf self.old I → HasSiteMore I J place id lanes.now → IsOrderOf self.new J }
+        ensures spare { self.new.spare + 1 ≡ self.old.spare }
+    {
+        insert_site(&mut self.lists, place as u32, lanes);
+        put_id(&mut self.site_ids, place, id);
+        self.spare -= 1;
+    }
+
+    /// The site at a place goes, with its lanes: the sites behind it come one place forward. It takes no
+    /// memory. The order is then that of an instance without that site.
+    pub fn remove_site(&mut self, place: usize)
+        requires { place < length self.old.sites }
+        ensures order { (I J : Meaning) (s : ℕ) (lanes : List (Option ℕ)) → IsValid I → IsValid J → IsOrderOf self.old J → HasSiteMore I J place s lanes → IsOrderOf self.new I }
+        ensures spare { self.new.spare ≡ self.old.spare }
+    {
+        remove_site(&mut self.lists, place as u32);
+        let _ = self.site_ids.remove(place);
+    }
+
+    /// A customer comes in at a place, with its lanes from the sites by their places: the customers from
+    /// there on come one place behind. It takes no memory. The order is then that of an instance with that
+    /// customer.
+    pub fn insert_cust(&mut self, place: usize, lanes: &LaneRow)
+        requires place { place ≤ length self.old.lanes }
+        requires lanes { length lanes.now ≡ length self.old.sites }
+        requires room { 0 < self.old.spare }
+        ensures order { (I J : Meaning) (c : ℕ) → IsValid I → IsValid J → IsOrderOf self.old I → HasCustMore I J place c lanes.now → IsOrderOf self.new J }
+        ensures spare { self.new.spare + 1 ≡ self.old.spare }
+    {
+        let mut list = take_fresh(&mut self.fresh);
+        list.fill(lanes);
+        put_list(&mut self.lists, place, list);
+        self.spare -= 1;
+    }
+
+    /// The customer at a place goes, with its lanes: the customers behind it come one place forward. It
+    /// takes no memory. The order is then that of an instance without that customer.
+    pub fn remove_cust(&mut self, place: usize)
+        requires { place < length self.old.lanes }
+        ensures order { (I J : Meaning) (c : ℕ) (lanes : List (Option ℕ)) → IsValid I → IsValid J → IsOrderOf self.old J → HasCustMore I J place c lanes → IsOrderOf self.new I }
+        ensures spare { self.new.spare ≡ self.old.spare }
+    {
+        let _ = self.lists.remove(place);
     }
 
     /// The number of customers.

@@ -3,7 +3,7 @@ use Rattle.lane_order.specs.declared.order.LaneOrder.TheInside.{Inside}
 use Rattle.lane_order.specs.Order.{Order}
 use Rattle.lane_order.specs.Listed.{Listed}
 use Rattle.lane_order.specs.Changed.{IsLaneTo}
-use Rattle.lane_order.proofs.Lists.{list-inside, sites-seen, rising-seen, list-seen, known-seen}
+use Rattle.lane_order.proofs.Lists.{list-inside, sites-seen, rising-seen, list-seen, known-seen, fresh_less}
 use Rattle.lane_order.proofs.Changed.{by_place, lists_after, order_after}
 use Rattle.lane_order.proofs.order.LaneOrder.set_lane.Goals as goal
 
@@ -28,6 +28,11 @@ invariant_of-self c =
     let less : (a.spare - 1) + 1 ≡ a.spare = omega (arith, spare, c.requires.room) in
     record {
       rising = c.self.invariant.rising;
+      few = c.self.invariant.few;
+      fresh = fresh_less (length a.site_ids.items + a.spare) (length a.site_ids.items + (a.spare - 1)) a.fresh.items (omega (arith, less)) c.self.invariant.fresh;
+      site_room = omega (arith, less, c.self.invariant.site_room);
+      list_room = omega (arith, less, c.self.invariant.list_room);
+      fresh_room = omega (arith, less, c.self.invariant.fresh_room);
       lists = lists_after a c.self.invariant c.args.site c.args.cust l c.set.new.self within inside c.index_mut.ensures.value c.set.ensures.others c.set.ensures.ascending (a.spare - 1) less c.set.ensures.spare;
     }
 
