@@ -8,8 +8,8 @@ use Rattle.location_terms.specs.declared.status.SiteStatus.{SiteStatus}
 use Rattle.location_terms.specs.declared.status.SiteStatus.TheVariants.{Free, MustOpen, MustClose}
 use Rattle.number_words.specs.Line.{words_of_line}
 use Rattle.fixed_cost.specs.Amount.{amount_of, count_of}
-use Rattle.instance_store.specs.declared.edit.Edit.{Edit}
-use Rattle.instance_store.specs.declared.edit.Edit.TheVariants.{SetFixed, SetLane, SetDemand, SetCap, SetCount, AddSite, AddCust, DropSite, DropCust, SetStatus}
+use Rattle.instance_edits.specs.declared.edit.Edit.{Edit}
+use Rattle.instance_edits.specs.declared.edit.Edit.TheVariants.{SetFixed, SetLane, SetDemand, SetCap, SetCount, AddSite, AddCust, DropSite, DropCust, SetStatus}
 
 -- what a line asks for: nothing, where it has no words; an edit, or to take the last one back; to solve the instance, with a budget or the default one; to show or to write
 -- the standing answer or the instance; or to end

@@ -6,10 +6,10 @@ use Rattle.location_terms.specs.declared.claim.Claim.TheVariants as claims
 use Rattle.location_terms.specs.Instance.{Instance}
 use Rattle.number_words.specs.Number.{digits_text}
 use Rattle.fixed_cost.specs.Claim.{claim_text}
-use Rattle.instance_store.specs.declared.edit.Edit.{Edit}
-use Rattle.instance_store.specs.declared.edit.Edit.TheVariants.{SetFixed, SetLane, SetDemand, SetCap, SetCount, AddSite, AddCust, DropSite, DropCust, SetStatus}
-use Rattle.instance_store.specs.declared.edit.EditFault.{EditFault}
-use Rattle.instance_store.specs.declared.edit.EditFault.TheVariants as edits
+use Rattle.instance_edits.specs.declared.edit.Edit.{Edit}
+use Rattle.instance_edits.specs.declared.edit.Edit.TheVariants.{SetFixed, SetLane, SetDemand, SetCap, SetCount, AddSite, AddCust, DropSite, DropCust, SetStatus}
+use Rattle.instance_edits.specs.declared.edit.EditFault.{EditFault}
+use Rattle.instance_edits.specs.declared.edit.EditFault.TheVariants as edits
 use Rattle.whatif_session.specs.declared.fault.SessionFault.{SessionFault}
 use Rattle.whatif_session.specs.declared.fault.SessionFault.TheVariants as session
 

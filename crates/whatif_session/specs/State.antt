@@ -8,8 +8,8 @@ use Rattle.location_terms.specs.Instance.{Instance}
 use Rattle.location_terms.specs.Plan.{Plan}
 use Rattle.location_terms.specs.Tree.{Tree}
 use Rattle.location_terms.specs.Certificate.{Certificate}
-use Rattle.instance_store.specs.declared.edit.Edit.{Edit}
-use Rattle.instance_store.specs.Edits.{edits_applied}
+use Rattle.instance_edits.specs.declared.edit.Edit.{Edit}
+use Rattle.instance_edits.specs.Edits.{edits_applied}
 use Rattle.dual_value.specs.Zeros.{zeros}
 use Rattle.branch_tree.specs.Made.{leaf_of}
 use Rattle.leaf_repair.specs.CarriedTree.{carried_tree}

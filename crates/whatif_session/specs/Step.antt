@@ -9,9 +9,9 @@ use Rattle.location_terms.specs.Plan.{Plan}
 use Rattle.location_terms.specs.Tree.{nodes_of}
 use Rattle.location_terms.specs.Carried.{IsHanded}
 use Rattle.location_terms.specs.Certificate.{Certificate}
-use Rattle.instance_store.specs.declared.edit.Edit.{Edit}
-use Rattle.instance_store.specs.declared.edit.EditFault.{EditFault}
-use Rattle.instance_store.specs.Edits.{edited}
+use Rattle.instance_edits.specs.declared.edit.Edit.{Edit}
+use Rattle.instance_edits.specs.declared.edit.EditFault.{EditFault}
+use Rattle.instance_edits.specs.Edits.{edited}
 use Rattle.tree_search.specs.Budget.{max_budget, budget_in}
 use Rattle.tree_search.specs.declared.answer.Answer.{Answer}
 use Rattle.tree_search.specs.Answer.{IsAnswerTo, plan_in, tree_in, made_in, claim_in}

@@ -1,6 +1,6 @@
 ghost use Rattle.std.specs.Prelude.{◌≡◌};
 
-use instance_store::EditFault;
+use instance_edits::EditFault;
 use thiserror::Error;
 
 /// Why a session refuses a line.
