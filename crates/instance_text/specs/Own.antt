@@ -1,4 +1,3 @@
--- Of calls that are yet to come: no public contract cites this page.
 -- What a text in the suite's own form means: the instance, or the first fault of a word. Version 1 makes every site free; in version 2 a word says the status of each.
 use Rattle.std.specs.Prelude.{ℕ, Bool, true, false, ◌&&◌, List, map, Option, None, Some, Result, Ok, Err, nat_lt, nat_le, codes, bytes_eq, if◌then◌else◌}
 use Rattle.location_terms.specs.declared.limits.TheConstants.{MAX_SITES}
@@ -132,6 +131,15 @@ own_instance count next_site next_customer custs sites = record {
   next_customer = next_customer;
 }
 
+-- what stands behind the head: the customers, the sites and the end
+unfoldable pub body_at : Bool → (m n count : ℕ × ℕ) → Rest → Result Instance FileFault
+body_at statuses m n count r = do
+  custs ← many_from (λ _ c. c.id) (customer_line_at n.1) 0 n.0 r
+  sites ← many_from (λ _ s. s.0.id) (site_line_at statuses n.0 m.1) 0 m.0 custs.1
+  behind_end ← fixed_at (codes "end") sites.1
+  finished (own_instance count m.1 n.1 custs.0 sites.0) behind_end
+
+-- the version, and how many sites and customers there are, and may be open, each with the next ids; and the rest
 unfoldable pub own_at : Rest → Result Instance FileFault
 own_at r = do
   behind ← fixed_at (codes "dualoc-instance") r
@@ -139,10 +147,7 @@ own_at r = do
   m ← size_line_at (codes "sites") (is_within 1 MAX_SITES) statuses.1
   n ← size_line_at (codes "customers") (is_customer_count m.0.0) m.1
   count ← count_line_at n.1
-  custs ← many_from (λ _ c. c.id) (customer_line_at n.0.1) 0 n.0.0 count.1
-  sites ← many_from (λ _ s. s.0.id) (site_line_at statuses.0 n.0.0 m.0.1) 0 m.0.0 custs.1
-  behind_end ← fixed_at (codes "end") sites.1
-  finished (own_instance count.0 m.0.1 n.0.1 custs.0 sites.0) behind_end
+  body_at statuses.0 m.0 n.0 count.0 count.1
 
 -- the instance that the bytes mean, or the first fault of a word
 unfoldable pub own_meaning : List ℕ → Result Instance FileFault

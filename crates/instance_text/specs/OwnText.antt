@@ -1,4 +1,3 @@
--- Of calls that are yet to come: no public contract cites this page.
 -- The one text of an instance in the suite's own form: version 1 where every site is free, and else version 2.
 use Rattle.std.specs.Prelude.{ℕ, Bool, ◌&&◌, not, List, [], ◌∷◌, ◌++◌, map, length, Option, None, Some, codes, if◌then◌else◌}
 use Rattle.std.specs.List.{list_all}
@@ -36,14 +35,17 @@ customer_words c = codes "customer" ∷ digits_text c.id ∷ micro_text c.demand
 abbrev pub site_words : Instance → Site → List (List ℕ)
 site_words I x = codes "site" ∷ digits_text x.id ∷ micro_text x.fixed ∷ amount_or_none x.cap ∷ (printed_statuses I x ++ map amount_or_none (lanes_from I x))
 
--- the words of each line
-abbrev pub own_lines : Instance → List (List (List ℕ))
-own_lines I =
+-- the words of the lines of the head
+abbrev pub own_head_lines : Instance → List (List (List ℕ))
+own_head_lines I =
     (codes "dualoc-instance" ∷ (if is_unsettled I then codes "1" else codes "2") ∷ [])
     ∷ (codes "sites" ∷ digits_text (length I.sites) ∷ codes "next" ∷ digits_text I.next_site ∷ [])
     ∷ (codes "customers" ∷ digits_text (length I.customers) ∷ codes "next" ∷ digits_text I.next_customer ∷ [])
-    ∷ (codes "count" ∷ digits_text I.lo ∷ digits_text I.hi ∷ [])
-    ∷ (map customer_words I.customers ++ (map (site_words I) I.sites ++ (codes "end" ∷ []) ∷ []))
+    ∷ (codes "count" ∷ digits_text I.lo ∷ digits_text I.hi ∷ []) ∷ []
+
+-- the words of each line
+abbrev pub own_lines : Instance → List (List (List ℕ))
+own_lines I = own_head_lines I ++ (map customer_words I.customers ++ (map (site_words I) I.sites ++ (codes "end" ∷ []) ∷ []))
 
 abbrev pub own_text : Instance → List ℕ
 own_text I = spaced_lines (own_lines I)
