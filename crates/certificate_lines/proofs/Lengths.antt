@@ -35,7 +35,8 @@ use Rattle.location_terms.proofs.Places.{length-site_ids, length-customer_ids}
 use Rattle.certificate_lines.specs.Text.{certificate_text, text_of_lines, counts_line, header_words, sizes_line, status_lines, is_all_free, ids_where, claim_line, plan_lines, priced, leaf_lines, split_line, node_lines}
 use Rattle.certificate_lines.specs.Follow.{HasSmallCosts, IsSpellable, HasPlanWhere, HasText}
 use Rattle.certificate_lines.specs.Length.{HasFewNodes}
-use Rattle.certificate_lines.specs.declared.limits.TheConstants.{MAX_CERTIFICATE_BYTES, MAX_TREE_NUMBERS}
+use Rattle.certificate_lines.specs.declared.limits.TheConstants.{MAX_CERTIFICATE_BYTES}
+use Rattle.branch_tree.specs.declared.limits.TheConstants.{MAX_TREE_NUMBERS}
 
 -- what holds of all of a list holds of its two parts
 parts : {X : Type 0} (P : X → Type 0) (xs ys : List X) → All P (xs ++ ys) → All P xs × All P ys

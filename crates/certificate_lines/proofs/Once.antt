@@ -11,7 +11,7 @@ use Rattle.location_terms.specs.Split.{first_step, second_step, IsSplitAmong}
 use Rattle.location_terms.specs.Tree.{Node, Leaf, Fork, Tree, IsTree, StandsOn, size_of, nodes_of, SplitsAmong}
 use Rattle.location_terms.proofs.Places.{length-site_ids, length-customer_ids}
 use Rattle.certificate_lines.specs.Length.{split_of, IsUndecided, SplitsUndecided, DecidesOnce, HasFewNodes}
-use Rattle.certificate_lines.specs.declared.limits.TheConstants.{MAX_TREE_NUMBERS}
+use Rattle.branch_tree.specs.declared.limits.TheConstants.{MAX_TREE_NUMBERS}
 
 -- a decision of the path is on this
 abbrev IsDecided : Path → Split → Type 0

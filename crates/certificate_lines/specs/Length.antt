@@ -8,7 +8,7 @@ use Rattle.location_terms.specs.Instance.{Instance}
 use Rattle.location_terms.specs.Box.{Path}
 use Rattle.location_terms.specs.Split.{first_step, second_step}
 use Rattle.location_terms.specs.Tree.{Node, Leaf, Fork, Tree, nodes_of}
-use Rattle.certificate_lines.specs.declared.limits.TheConstants.{MAX_TREE_NUMBERS}
+use Rattle.branch_tree.specs.declared.limits.TheConstants.{MAX_TREE_NUMBERS}
 
 -- the tree's nodes are within their limit, and of one site and one customer there are at most as many as two splits make
 pub record HasFewNodes (I : Instance) (t : Tree) : Type 0 where

@@ -7,7 +7,8 @@ ghost use Rattle.certificate_lines.specs.Follow.{HasText};
 ghost use Rattle.certificate_lines.specs.Length.{HasFewNodes, DecidesOnce};
 ghost use Rattle.certificate_lines.specs.Text.{certificate_text};
 
-use crate::{MAX_CERTIFICATE_BYTES, MAX_TREE_NUMBERS};
+use crate::MAX_CERTIFICATE_BYTES;
+use branch_tree::MAX_TREE_NUMBERS;
 
 /// The text of a certificate on a tree of few nodes is within `MAX_CERTIFICATE_BYTES`. Of one site and
 /// one customer a tree has few nodes where no path of it decides a thing twice, and else where their

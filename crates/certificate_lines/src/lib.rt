@@ -20,6 +20,6 @@ mod statuses;
 pub use fault::CertFault;
 pub use kind::CertKind;
 pub use laws::texts_fit;
-pub use limits::{MAX_CERTIFICATE_BYTES, MAX_TREE_NUMBERS};
+pub use limits::MAX_CERTIFICATE_BYTES;
 pub use line::{Due, LeafHead, LineFault, Shown};
 pub use statuses::{is_all_free, is_status, version};

@@ -92,6 +92,28 @@ pub fn restart_smooth(customers: &mut [Customer])
     }
 }
 
+/// Takes these as the smoothed slopes, by place.
+pub(crate) fn resume_smooth(slopes: &[f64], customers: &mut [Customer])
+    ensures { length customers.new ≡ length customers.old }
+{
+    for j in 0..customers.len() {
+        if j < slopes.len() {
+            customers[j].smooth = slopes[j];
+        }
+    }
+}
+
+/// Writes down the smoothed slopes, by place.
+pub(crate) fn fill_smooth(customers: &[Customer], slopes: &mut [f64])
+    ensures { length slopes.new ≡ length slopes.old }
+{
+    for j in 0..slopes.len() {
+        if j < customers.len() {
+            slopes[j] = customers[j].smooth;
+        }
+    }
+}
+
 /// Sums of products of slopes and smoothed slopes.
 #[derive(Clone, Copy)]
 pub struct Products {

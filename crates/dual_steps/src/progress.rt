@@ -2,7 +2,7 @@
 ghost use Rattle.std.specs.Prelude.{◌≡◌, length, IfOk};
 
 use crate::choosing::{Count, NO_PICK, Pick, choose};
-use crate::site::{Site, smooth_shares};
+use crate::site::{Site, smooth_shares, take_shares};
 use instance_store::{Instance, NoMemory};
 use std::alloc::Global;
 use std::marker::Model;
@@ -142,5 +142,12 @@ impl Progress {
         ensures { self.new ≡ self.old }
     {
         smooth_shares(&self.taken, &mut self.shares, weight);
+    }
+
+    /// Takes these shares, by the places of the sites.
+    pub(crate) fn resume(&mut self, shares: &[f64])
+        ensures { self.new ≡ self.old }
+    {
+        take_shares(shares, &mut self.shares);
     }
 }

@@ -40,6 +40,17 @@ fn suits(state: SiteState, open: bool) -> bool {
     }
 }
 
+/// Takes these shares, by place.
+pub(crate) fn take_shares(known: &[f64], shares: &mut [f64])
+    ensures { length shares.new ≡ length shares.old }
+{
+    for i in 0..shares.len() {
+        if i < known.len() {
+            shares[i] = known[i];
+        }
+    }
+}
+
 /// Mixes so much of what is open now into the shares.
 pub(crate) fn smooth_shares(open: &[bool], shares: &mut [f64], weight: f64)
     requires { length open.now ≡ length shares.old }

@@ -3,7 +3,7 @@ ghost use Rattle.std.specs.Prelude.{◌≡◌, ◌<◌, length, IfOk};
 ghost use Rattle.dual_steps.specs.Sizes.{sizes_of, Suits};
 ghost use Rattle.lane_order.specs.Order.{IsOrderOf};
 
-use crate::customer::{Customer, keep_values, recall_values};
+use crate::customer::{Customer, fill_smooth, keep_values, recall_values, resume_smooth};
 use crate::paying::{fill_slacks, fill_slopes};
 use crate::progress::Progress;
 use crate::rounding::{fill_rounded, nearest_whole, take_rounded, take_values};
@@ -110,6 +110,29 @@ impl<'a> Steps<'a> {
     {
         self.is_smooth = false;
         self.factor = factor;
+    }
+
+    /// Lets smoothed steps go on from these smoothed slopes of the customers and shares of the sites, by
+    /// place, with this part of a whole step.
+    pub fn resume(&mut self, slopes: &[f64], shares: &[f64], factor: f64)
+        ensures { self.new ≡ self.old }
+    {
+        resume_smooth(slopes, &mut self.customers);
+        self.progress.resume(shares);
+        self.is_smooth = true;
+        self.factor = factor;
+    }
+
+    /// Whether smoothed steps were taken since it was forgotten what was smoothed.
+    pub fn is_smooth(&self) -> bool {
+        self.is_smooth
+    }
+
+    /// Writes down the smoothed slopes, by the places of the customers.
+    pub fn fill_slopes(&self, slopes: &mut [f64])
+        ensures { length slopes.new ≡ length slopes.old }
+    {
+        fill_smooth(&self.customers, slopes);
     }
 
     /// Lets smoothed steps go on with this part of a whole step.

@@ -8,7 +8,7 @@ use Rattle.location_terms.specs.declared.split.Split.TheVariants.{Site, Lane}
 use Rattle.location_terms.specs.Carried.{is_listed}
 use Rattle.location_terms.specs.Bound.{Duals}
 use Rattle.location_terms.specs.Tree.{Node, Leaf, Fork, Tree, nodes_of}
-use Rattle.leaf_repair.specs.declared.limits.TheConstants.{MAX_TREE_NUMBERS}
+use Rattle.branch_tree.specs.declared.limits.TheConstants.{MAX_TREE_NUMBERS}
 use Rattle.dual_value.specs.Zeros.{zeros}
 use Rattle.branch_tree.specs.Made.{leaf_of}
 

@@ -16,6 +16,9 @@ pub(crate) const ROUND_MISSES: u32 = 20;
 /// By which part of a whole step smoothed steps begin.
 pub(crate) const ROUND_FACTOR: f64 = 0.5;
 
+/// By which they go on from those of a former search.
+pub(crate) const RESUMED_FACTOR: f64 = 0.15;
+
 /// Sweeps behind the steps of a round that came near the target.
 pub(crate) const ROUND_SWEEPS: u32 = 30;
 

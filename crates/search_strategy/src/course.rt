@@ -26,6 +26,18 @@ impl Course {
         }
     }
 
+    /// The same where smoothed steps go on from a former search.
+    pub(crate) fn resumed() -> Course {
+        Course {
+            is_exact: false,
+            is_first: false,
+            failed: 0,
+            slow: 0,
+            changes: 0,
+            is_over: false,
+        }
+    }
+
     /// Whether the next round takes steps to exactly the target.
     pub(crate) fn is_exact(&self) -> bool {
         self.is_exact

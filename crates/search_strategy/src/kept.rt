@@ -1,6 +1,7 @@
 //! What a search leaves for a later one.
 ghost use Rattle.std.specs.Prelude.{◌≡◌, IfOk, length};
 
+use dual_steps::Steps;
 use dual_value::Duals;
 use instance_store::{CustId, Instance, NoMemory, SiteId};
 use std::alloc::Global;
@@ -15,23 +16,28 @@ pub struct Kept {
     pub count_price: i128,
     /// The scale of the duals of the steps.
     pub step_scale: u32,
+    /// Whether the steps were smoothed, so that slopes and shares mean something.
+    pub is_smooth: bool,
     pub customers: Vec<KeptCustomer>,
     pub sites: Vec<KeptSite>,
 }
 
-/// What is kept of a customer: its dual at the leaf, and its dual where the steps were.
+/// What is kept of a customer: its dual at the leaf, its dual where the steps were, and by how much the bound rose
+/// with that, smoothed over the steps.
 #[derive(Clone, Copy)]
 pub struct KeptCustomer {
     pub id: CustId,
     pub dual: i128,
     pub stepped: i128,
+    pub slope: f64,
 }
 
-/// What is kept of a site: the price of its capacity.
+/// What is kept of a site: the price of its capacity, and in which share of the steps it was taken, smoothed.
 #[derive(Clone, Copy)]
 pub struct KeptSite {
     pub id: SiteId,
     pub price: u64,
+    pub share: f64,
 }
 
 /// The numbers of the first box by places: 0 where none are known.
@@ -42,6 +48,10 @@ pub(crate) struct FirstBox {
     /// Those of the steps, and their scale.
     pub(crate) stepped: Vec<i128>,
     pub(crate) step_scale: u32,
+    /// Their smoothed slopes and shares, if they have such.
+    pub(crate) slopes: Vec<f64>,
+    pub(crate) shares: Vec<f64>,
+    pub(crate) is_smooth: bool,
 }
 
 impl FirstBox {
@@ -51,6 +61,9 @@ impl FirstBox {
             duals: Duals::zeros(alloc, inst, 1)?,
             stepped: vec![in alloc; 0; inst.custs()]?,
             step_scale: 1,
+            slopes: vec![in alloc; 0.0; inst.custs()]?,
+            shares: vec![in alloc; 0.0; inst.sites()]?,
+            is_smooth: false,
         })
     }
 
@@ -58,14 +71,21 @@ impl FirstBox {
     pub(crate) fn of(alloc: Global, inst: &Instance, kept: &Kept) -> Result<FirstBox, NoMemory> {
         let mut values = vec![in alloc; 0; inst.custs()]?;
         let mut stepped = vec![in alloc; 0; inst.custs()]?;
+        let mut slopes = vec![in alloc; 0.0; inst.custs()]?;
         let mut prices = vec![in alloc; 0; inst.sites()]?;
+        let mut shares = vec![in alloc; 0.0; inst.sites()]?;
         place_duals(inst, &kept.customers, &mut values);
         place_steps(inst, &kept.customers, &mut stepped);
+        place_slopes(inst, &kept.customers, &mut slopes);
         place_prices(inst, &kept.sites, &mut prices);
+        place_shares(inst, &kept.sites, &mut shares);
         Ok(FirstBox {
             duals: Duals::from_lists(kept.scale, kept.count_price, values, prices),
             stepped,
             step_scale: kept.step_scale,
+            slopes,
+            shares,
+            is_smooth: kept.is_smooth,
         })
     }
 
@@ -82,11 +102,19 @@ impl FirstBox {
         copy_known(values, &mut self.stepped);
     }
 
-    /// The duals, and those of the steps with their scale, which stand at these duals where nothing is known.
-    pub(crate) fn known(self, duals: &Duals) -> (Duals, Vec<i128>, u32) {
-        let mut stepped = self.stepped;
-        fill_unknown(duals, self.step_scale, &mut stepped);
-        (self.duals, stepped, self.step_scale)
+    /// Takes over what the steps smoothed, if they did.
+    pub(crate) fn take_smoothed(&mut self, steps: &Steps<'_>) {
+        if !steps.is_smooth() {
+            return;
+        }
+        self.is_smooth = true;
+        steps.fill_slopes(&mut self.slopes);
+        copy_shares(steps.progress().shares(), &mut self.shares);
+    }
+
+    /// Lets the duals of the steps be these where nothing is known.
+    pub(crate) fn fill(&mut self, duals: &Duals) {
+        fill_unknown(duals, self.step_scale, &mut self.stepped);
     }
 
     /// The same by the ids of the instance. It fails only where memory runs out.
@@ -96,30 +124,39 @@ impl FirstBox {
             .custs()
             .min(self.stepped.len())
             .min(self.duals.customers())
+            .min(self.slopes.len())
         {
             customers.push(KeptCustomer {
                 id: inst.cust_id(j),
                 dual: self.duals.v(j),
                 stepped: self.stepped[j],
+                slope: self.slopes[j],
             })?;
         }
-        let sites = kept_sites(alloc, inst, &self.duals)?;
+        let sites = kept_sites(alloc, inst, &self.duals, &self.shares)?;
         Ok(Kept {
             scale: self.duals.q(),
             count_price: self.duals.nu(),
             step_scale: self.step_scale,
+            is_smooth: self.is_smooth,
             customers,
             sites,
         })
     }
 }
 
-fn kept_sites(alloc: Global, inst: &Instance, duals: &Duals) -> Result<Vec<KeptSite>, NoMemory> {
+fn kept_sites(
+    alloc: Global,
+    inst: &Instance,
+    duals: &Duals,
+    shares: &[f64],
+) -> Result<Vec<KeptSite>, NoMemory> {
     let mut sites = Vec::with_capacity(alloc, inst.sites())?;
-    for i in 0..inst.sites().min(duals.sites()) {
+    for i in 0..inst.sites().min(duals.sites()).min(shares.len()) {
         sites.push(KeptSite {
             id: inst.site_id(i),
             price: duals.u(i),
+            share: shares[i],
         })?;
     }
     Ok(sites)
@@ -149,6 +186,30 @@ fn place_steps(inst: &Instance, customers: &[KeptCustomer], stepped: &mut [i128]
     }
 }
 
+fn place_slopes(inst: &Instance, customers: &[KeptCustomer], slopes: &mut [f64])
+    ensures { length slopes.new ≡ length slopes.old }
+{
+    for k in 0..customers.len() {
+        if let Some(j) = inst.cust_at(customers[k].id)
+            && j < slopes.len()
+        {
+            slopes[j] = customers[k].slope;
+        }
+    }
+}
+
+fn place_shares(inst: &Instance, sites: &[KeptSite], shares: &mut [f64])
+    ensures { length shares.new ≡ length shares.old }
+{
+    for k in 0..sites.len() {
+        if let Some(i) = inst.site_at(sites[k].id)
+            && i < shares.len()
+        {
+            shares[i] = sites[k].share;
+        }
+    }
+}
+
 // Only capacities have prices.
 fn place_prices(inst: &Instance, sites: &[KeptSite], prices: &mut [u64])
     ensures { length prices.new ≡ length prices.old }
@@ -173,6 +234,16 @@ fn copy_known(values: &[i64], stepped: &mut [i128])
     for j in 0..stepped.len() {
         if j < values.len() {
             stepped[j] = i128::from(values[j]);
+        }
+    }
+}
+
+fn copy_shares(known: &[f64], shares: &mut [f64])
+    ensures { length shares.new ≡ length shares.old }
+{
+    for i in 0..shares.len() {
+        if i < known.len() {
+            shares[i] = known[i];
         }
     }
 }

@@ -154,9 +154,10 @@ impl Pricing {
         let Some(former) = self.former.take() else {
             return Move::Nothing;
         };
-        let (duals, stepped, scale) = former.known(scene.duals);
-        self.prices.start_from(&stepped, scale);
-        Move::Duals(duals)
+        let mut former = former;
+        former.fill(scene.duals);
+        self.prices.start_from(&former.stepped, former.step_scale);
+        Move::Duals(former.duals)
     }
 
     // Seeks a plan at the sites without slack.

@@ -8,7 +8,7 @@ ghost use Rattle.search_strategy.specs.Sizes.{Suits};
 
 use crate::constants::{
     CLOSING_ROUNDS, CLOSING_STEPS, CLOSING_SWEEPS, DECIDED, HINTS, NEAR, NODE_FACTOR, NODE_MISSES,
-    NODE_STEPS, ROUND_FACTOR, ROUND_MISSES, ROUND_STEPS, ROUND_SWEEPS, ROUNDS,
+    NODE_STEPS, RESUMED_FACTOR, ROUND_FACTOR, ROUND_MISSES, ROUND_STEPS, ROUND_SWEEPS, ROUNDS,
 };
 use crate::course::Course;
 use crate::kept::FirstBox;
@@ -153,16 +153,23 @@ impl<'a> Stepping<'a> {
         self.go_on(scene)
     }
 
-    // Lets the steps go on from where a former search was, if there was one, and proposes its duals.
+    // Lets the steps go on from where those of a former search were, if there was one, and proposes its duals.
     fn go_on(&mut self, scene: &Scene<'_, '_>) -> Move
         requires { Suits scene.now self.old.steps self.old.plans.flags.items }
     {
         let Some(former) = self.former.take() else {
             return Move::Nothing;
         };
-        let (duals, stepped, scale) = former.known(scene.duals);
-        self.steps.start_from(scene.order, &stepped, scale);
-        Move::Duals(duals)
+        let mut former = former;
+        former.fill(scene.duals);
+        self.steps
+            .start_from(scene.order, &former.stepped, former.step_scale);
+        if former.is_smooth {
+            self.steps
+                .resume(&former.slopes, &former.shares, RESUMED_FACTOR);
+            self.course = Course::resumed();
+        }
+        Move::Duals(former.duals)
     }
 
     // Seeks a plan at the sites without slack.
@@ -269,6 +276,7 @@ impl<'a> Stepping<'a> {
         snap_near(&mut self.steps, scene);
         let found = rounded(&mut self.steps, scene, 1)?;
         self.first.take_steps(self.steps.values(), 1);
+        self.first.take_smoothed(&self.steps);
         Ok(found)
     }
 

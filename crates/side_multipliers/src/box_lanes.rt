@@ -87,24 +87,13 @@ fn put_allowed(
     requires customer { cust < length boxed.now.instance.customers }
     ensures { length lanes.new ≡ length lanes.old }
 {
+    let demand = boxed.instance().demand(cust);
     let mut end = from;
     for lane in order.lanes(cust) {
-        if end < lanes.len() && allows(boxed, lane.site as usize, cust) {
+        if end < lanes.len() && boxed.admits(lane.site as usize, cust, demand) {
             lanes[end] = *lane;
             end += 1;
         }
     }
     end
-}
-
-// Whether the box allows the lane from the site to the customer.
-fn allows(boxed: &PreparedBox<'_>, site: usize, cust: usize) -> bool
-    requires site { site < length boxed.now.instance.sites }
-    requires customer { cust < length boxed.now.instance.customers }
-{
-    let inst = boxed.instance();
-    match inst.lane(site, cust) {
-        None => false,
-        Some(_) => boxed.admits(site, cust, inst.demand(cust)),
-    }
 }

@@ -22,7 +22,7 @@ use Rattle.location_terms.specs.declared.split.Split.TheVariants.{Site, Lane}
 use Rattle.branch_tree.specs.Growing.{Growing, leaf_at_work, worked, split_in_two}
 use Rattle.branch_tree.specs.Built.{IsBuiltOf}
 use Rattle.branch_tree.proofs.Built.{built_leaves, built_with_duals, built_split, built_replaced, built_but_weaker, done_split, done_whole}
-use Rattle.tree_search.specs.Made.{IsMadeLeaf, IsOpenBox, IsOpenSplit, IsDueSplit}
+use Rattle.tree_search.specs.Made.{IsMadeLeaf, NeedsSplit, IsOpenSplit, IsDueSplit}
 use Rattle.tree_search.specs.Making.{LowersNone}
 use Rattle.tree_search.specs.Answer.{cost_in}
 use Rattle.tree_search.specs.Working.{IsWorked, IsDoneLeaf, IsReached, AnySplit, IsGrowing, IsGrownPart, steps_left}
@@ -140,8 +140,8 @@ module _ (I : Instance) (base : Path) (old : Duals) (handed plan plan' : Option 
 
     -- the leaf at work is split
     module _ (s : Split) (some : split ≡ Some s) (first : Duals) (same : first ≡ e) (room : IsTrue may_split → nodes_of g.tree + 2 ≤ limit) where
-      halved : IsTrue may_split × IsOpenSplit I path s × ((handed : Option Plan) → IsNoWorse I plan' handed → IsOpenBox I (cost_in I handed) path)
-      halved = subst (λ o. IfSome o (λ s. IsTrue may_split × IsOpenSplit I path s × ((handed : Option Plan) → IsNoWorse I plan' handed → IsOpenBox I (cost_in I handed) path))) some is.halved
+      halved : IsTrue may_split × IsOpenSplit I path s × ((handed : Option Plan) → IsNoWorse I plan' handed → NeedsSplit I (cost_in I handed) path)
+      halved = subst (λ o. IfSome o (λ s. IsTrue may_split × IsOpenSplit I path s × ((handed : Option Plan) → IsNoWorse I plan' handed → NeedsSplit I (cost_in I handed) path))) some is.halved
 
       abbrev after_split : Growing
       after_split = split_in_two g s first e

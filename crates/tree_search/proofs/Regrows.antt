@@ -1,5 +1,5 @@
 -- What each leaf of a tree comes to in a search, and the whole tree.
-use Rattle.std.proofs.Common.{◌≡◌, ℕ, ◌+◌, ◌-◌, ◌^◌, ◌<◌, ◌≤◌, zero, suc, refl, sym, ap, subst, ◌∙◌, inl, inr, arith, List, [], ◌∷◌, ◌++◌, length, length-append, get_or, Bool, true, false, Option, Some, None, pos, negsuc, ◌-ℤ◌, ◌*ℤ◌, ◌≤ℤ◌, ◌<ℤ◌, ℤ}
+use Rattle.std.proofs.Common.{◌≡◌, ℕ, ◌+◌, ◌*◌, ◌-◌, ◌^◌, ◌<◌, ◌≤◌, zero, suc, refl, sym, ap, subst, ◌∙◌, inl, inr, arith, List, [], ◌∷◌, ◌++◌, length, length-append, get_or, Bool, true, false, Option, Some, None, pos, negsuc, ◌-ℤ◌, ◌*ℤ◌, ◌≤ℤ◌, ◌<ℤ◌, ℤ}
 use Rattle.std.specs.Prelude.{◌⊎◌, ◌↔◌, All, IfSome, IsTrue, IsSome, IsSomeAnd, slice_get}
 use Rattle.std.proofs.lemmas.Bool.{both_ways}
 use Rattle.std.proofs.lemmas.Int.{ints}
@@ -22,11 +22,11 @@ use Rattle.branch_tree.specs.Built.{IsBuiltOf}
 use Rattle.branch_tree.proofs.Built.{built_leaves, built_weaker}
 use Rattle.branch_tree.proofs.Flat.{leaves_and_splits}
 use Rattle.branch_tree.proofs.Renewing.{fork_total, count_over, renewed_nodes, begun_to, get_drop, leaves_in-push, stayed_to, given_to}
-use Rattle.tree_search.specs.Made.{IsMadeLeaf, IsMadeAtScale, IsOpenBox, IsDueSplit, IsMade, plain_scale}
+use Rattle.tree_search.specs.Made.{IsMadeLeaf, IsMadeAtScale, NeedsSplit, IsDueSplit, IsMade, plain_scale}
 use Rattle.tree_search.specs.Grown.{IsGrownBelow, IsGrownFrom, PlansWereSought}
 use Rattle.tree_search.specs.Answer.{AreHeld, IsWithin, IsAnswerTo, cost_in, plan_in}
 use Rattle.tree_search.specs.declared.answer.Answer.{Answer}
-use Rattle.tree_search.specs.declared.limits.TheConstants.{MAX_DUALS}
+use Rattle.branch_tree.specs.declared.limits.TheConstants.{MAX_TREE_NUMBERS}
 use Rattle.tree_search.specs.Working.{IsSoughtAt, IsDoneLeaf, IsGrownPart}
 use Rattle.tree_search.specs.Regrown.{IsKnownLeaf, HasEnded, Answers, IsRenewed, AreRenewedParts, IsRegrowing, IsGrownAt, IsRegrownFrom}
 use Rattle.tree_search.proofs.Closer.{closes_no_worse, closes_still, sought_still}
@@ -135,7 +135,7 @@ module _ (I : Instance) where
     }
 
     -- a box that is open against a target is open against any that is no lower
-    open_weaker : (plan handed : Option Plan) (path : Path) → IsNoWorse I plan handed → IsOpenBox I (cost_in I plan) path → IsOpenBox I (cost_in I handed) path
+    open_weaker : (plan handed : Option Plan) (path : Path) → IsNoWorse I plan handed → NeedsSplit I (cost_in I plan) path → NeedsSplit I (cost_in I handed) path
     open_weaker plan handed path later box = record {
       served = box.served;
       ascent = box.ascent;
@@ -331,7 +331,7 @@ answers_to I old new handed plan budget made a regrown later answers =
     }
 
 -- the numbers of a search are small
-few_duals : (I : Instance) (n : ℕ) → IsValid I → IsWithin I n → n ≤ MAX_DUALS
+few_duals : (I : Instance) (n : ℕ) → IsValid I → IsWithin I n → 2 * n ≤ MAX_TREE_NUMBERS
 few_duals I n valid within = let product = mul-le n 1 n (length I.sites + length I.customers) (omega arith) (omega (arith, valid.sizes.some_site)) in omega (arith, product, within)
 
 pub few_nodes : (I : Instance) (nodes budget : ℕ) → IsValid I → IsWithin I nodes ⊎ (nodes ≡ 1) → IsWithin I budget → nodes + budget + 3 < 2 ^ 32

@@ -12,7 +12,7 @@ use Rattle.dual_adjust.specs.Slackness.{tight_sites}
 use Rattle.plan_search.specs.InBox.{IsPathOf, IsNoWorse}
 use Rattle.plan_search.specs.Packed.{packed}
 use Rattle.location_terms.specs.declared.split.Split.{Split}
-use Rattle.tree_search.specs.Made.{IsMadeLeaf, IsOpenBox, IsOpenSplit}
+use Rattle.tree_search.specs.Made.{IsMadeLeaf, NeedsSplit, IsOpenSplit}
 use Rattle.tree_search.specs.Rays.{IsRayIn, IsRayless}
 use Rattle.tree_search.specs.Making.{Making, LowersNone, IsMaking, StaysMaking}
 use Rattle.tree_search.specs.Answer.{cost_in}
@@ -65,7 +65,7 @@ module _ (I : Instance) (path : Path) where
                 (plain_closes (Some (cost_of I P)) closes)
           ]
 
-      open_box : (ClosesWith I plan' path m''.best.duals → ⊥) → (handed : Option Plan) → IsNoWorse I plan' handed → IsOpenBox I (cost_in I handed) path
+      open_box : (ClosesWith I plan' path m''.best.duals → ⊥) → (handed : Option Plan) → IsNoWorse I plan' handed → NeedsSplit I (cost_in I handed) path
       open_box unclosed handed no_worse = record {
         served = rayless.served;
         ascent = m.plain;
@@ -76,7 +76,7 @@ module _ (I : Instance) (path : Path) where
       }
 
       halved_on : (may_split : Bool) (split : Option Split) → IfSome split (λ s. (ClosesWith I plan' path m''.best.duals → ⊥) × IsTrue may_split × IsOpenSplit I path s)
-          → IfSome split (λ s. IsTrue may_split × IsOpenSplit I path s × ((handed : Option Plan) → IsNoWorse I plan' handed → IsOpenBox I (cost_in I handed) path))
+          → IfSome split (λ s. IsTrue may_split × IsOpenSplit I path s × ((handed : Option Plan) → IsNoWorse I plan' handed → NeedsSplit I (cost_in I handed) path))
       halved_on may_split None h = tt
       halved_on may_split (Some s) h = (h.1, h.2, open_box h.0)
 

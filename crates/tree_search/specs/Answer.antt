@@ -12,15 +12,15 @@ use Rattle.location_terms.specs.Certificate.{Certificate, IsAccepted}
 use Rattle.plan_search.specs.InBox.{HasNoCaps, IsNoWorse}
 use Rattle.tree_search.specs.Made.{has_cap}
 use Rattle.tree_search.specs.Grown.{IsGrownFrom, PlansWereSought}
-use Rattle.tree_search.specs.declared.limits.TheConstants.{MAX_DUALS}
+use Rattle.branch_tree.specs.declared.limits.TheConstants.{MAX_TREE_NUMBERS}
 use Rattle.tree_search.specs.declared.answer.Answer.{Answer}
 use Rattle.tree_search.specs.declared.answer.Answer.TheVariants.{Optimal, Infeasible, Bracket}
 
 -- The start.
 
--- so many nodes are within the limit for this instance
+-- a tree of twice so many nodes is within the limit for this instance
 abbrev pub IsWithin : Instance → ℕ → Type 0
-IsWithin I nodes = nodes * (length I.sites + length I.customers) ≤ MAX_DUALS
+IsWithin I nodes = 2 * nodes * (length I.sites + length I.customers) ≤ MAX_TREE_NUMBERS
 
 -- the cost of a plan, where there is one
 abbrev pub cost_in : Instance → Option Plan → Option ℕ

@@ -71,7 +71,7 @@ pub record IsMadeLeaf (I : Instance) (old_path : Path) (old : Duals) (path : Pat
 
 -- The box needs a split: every customer has an allowed lane, and the plain ascent closes it neither with the target nor with the
 -- cost of the plan that its own tight sites give. So a search that packs at these sites too never meets an open leaf whose box may not be split.
-pub record IsOpenBox (I : Instance) (target : Option ℕ) (path : Path) : Type 0 where
+pub record NeedsSplit (I : Instance) (target : Option ℕ) (path : Path) : Type 0 where
   pub served : AreServed I path
   pub ascent : Duals
   pub is_plain : IsPlainAscent I path ascent
@@ -107,7 +107,7 @@ IsOpenSplit I path (Lane s c) = IsOpenLane I path s c
 
 -- a split of a box that needs one
 abbrev pub IsDueSplit : Instance → Option ℕ → Path → Split → Type 0
-IsDueSplit I target path split = IsOpenBox I target path × IsOpenSplit I path split
+IsDueSplit I target path split = NeedsSplit I target path × IsOpenSplit I path split
 
 -- a tree whose root is the box of `path`, made for a leaf that had the duals `old` at `old_path`: each of its leaves is made for it, and each of its splits is due
 abbrev pub IsMade : Instance → Option ℕ → Path → Duals → Path → Node → Type 0

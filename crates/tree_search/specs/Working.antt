@@ -14,7 +14,7 @@ use Rattle.location_terms.specs.declared.split.Split.{Split}
 use Rattle.branch_tree.specs.Growing.{Growing}
 use Rattle.branch_tree.specs.Built.{IsBuiltOf, IsBuiltIn, IsDoneIn}
 use Rattle.dual_ascent.specs.Levels.{servers}
-use Rattle.tree_search.specs.Made.{has_cap, IsMadeLeaf, IsOpenBox, IsOpenSplit, IsDueSplit}
+use Rattle.tree_search.specs.Made.{has_cap, IsMadeLeaf, NeedsSplit, IsOpenSplit, IsDueSplit}
 use Rattle.tree_search.specs.Making.{LowersNone}
 use Rattle.tree_search.specs.Answer.{cost_in}
 
@@ -52,7 +52,7 @@ pub record IsWorked (I : Instance) (plan : Option Plan) (may_split : Bool) (old 
   pub made : (old_path : Path) → LowersNone I old_path path → IsMadeLeaf I old_path old path d
   pub sought : 1 ≤ d.q → IsSoughtAt I plan path d
   pub whole : split ≡ None → ClosesWith I plan path d ⊎ IsFalse may_split
-  pub halved : IfSome split (λ s. IsTrue may_split × IsOpenSplit I path s × ((handed : Option Plan) → IsNoWorse I plan handed → IsOpenBox I (cost_in I handed) path))
+  pub halved : IfSome split (λ s. IsTrue may_split × IsOpenSplit I path s × ((handed : Option Plan) → IsNoWorse I plan handed → NeedsSplit I (cost_in I handed) path))
 
 -- The tree that grows in the place of a leaf, whose path and duals are `base` and `old`.
 

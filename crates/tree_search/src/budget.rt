@@ -3,7 +3,7 @@ ghost use Rattle.std.specs.Prelude.{◌≡◌, ◌<◌, ◌≤◌, IfSome, Match
 ghost use Rattle.tree_search.specs.Answer.{IsWithin};
 ghost use Rattle.tree_search.specs.Budget.{max_budget, budget_in};
 
-use crate::max_nodes;
+use branch_tree::MAX_TREE_NUMBERS;
 use instance_store::Instance;
 
 /// The budget of nodes of a search where none is given, unless it is past the greatest one.
@@ -17,7 +17,7 @@ pub fn budget_in(inst: &Instance, given: Option<u32>) -> Option<u32>
     ensures small { IfSome result (λ budget. budget ≤ max_budget inst.now) }
     ensures within { IfSome result (IsWithin inst.now) }
 {
-    let greatest = greatest_budget(inst);
+    let greatest = max_nodes(inst);
     let budget = given.unwrap_or(greatest.min(DEFAULT_BUDGET));
     if budget > greatest {
         None
@@ -26,9 +26,12 @@ pub fn budget_in(inst: &Instance, given: Option<u32>) -> Option<u32>
     }
 }
 
-// The greatest budget.
-fn greatest_budget(inst: &Instance) -> u32
-    ensures { result ≡ max_budget inst.now }
+/// The greatest number of nodes of a tree from which a search of this instance starts, and the greatest
+/// budget.
+pub fn max_nodes(inst: &Instance) -> u32
+    ensures exact { result ≡ max_budget inst.now }
+    ensures within { IsWithin inst.now result }
 {
-    max_nodes(inst)
+    let duals = inst.sites() as u64 + inst.custs() as u64;
+    (MAX_TREE_NUMBERS / (2 * duals)) as u32
 }

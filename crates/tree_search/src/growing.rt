@@ -1,5 +1,5 @@
 //! The growth of a tree.
-ghost use Rattle.std.specs.Prelude.{◌≡◌, ℕ, ◌+◌, ◌*◌, ◌^◌, ◌<◌, ◌≤◌, All, IfOk, IfSome, OnOk, length, slice_get};
+ghost use Rattle.std.specs.Prelude.{◌≡◌, ℕ, ◌+◌, ◌^◌, ◌<◌, ◌≤◌, All, IfOk, IfSome, OnOk, length, slice_get};
 ghost use Rattle.location_terms.specs.Instance.{site_ids, customer_ids};
 ghost use Rattle.location_terms.specs.Fit.{DualsFit};
 ghost use Rattle.location_terms.specs.Tree.{StandsOn, leaves_of, nodes_of};
@@ -8,26 +8,16 @@ ghost use Rattle.tree_search.specs.Answer.{AreHeld, IsSearchStart, IsAnswerTo, c
 ghost use Rattle.tree_search.specs.Best.{Improves};
 ghost use Rattle.tree_search.specs.Regrown.{IsKnownLeaf, HaveEnded, IsGrownAt, IsRegrownFrom, Answers};
 
+use crate::Answer;
 use crate::incumbent::plan_cost;
 use crate::leaf_growth::grow_leaf;
 use crate::search::Search;
-use crate::{Answer, MAX_DUALS};
 use branch_tree::{Renewal, Tree};
 use instance_store::{Instance, NoMemory};
 use lane_order::LaneOrder;
 use plan_meaning::Plan;
 use std::alloc::Global;
 use strategy_port::Strategy;
-
-/// The greatest number of nodes of a tree from which a search of this instance starts, and the greatest
-/// budget.
-pub fn max_nodes(inst: &Instance) -> u32
-    ensures within { result * (length inst.now.sites + length inst.now.customers) ≤ MAX_DUALS }
-    ensures greatest { MAX_DUALS < (result + 1) * (length inst.now.sites + length inst.now.customers) }
-{
-    let duals = inst.sites() as u64 + inst.custs() as u64;
-    (MAX_DUALS / duals) as u32
-}
 
 /// Grows a tree until each leaf closes against the cost of the best plan found, or another split, which
 /// makes two nodes, would make more than `budget` in all.
@@ -121,8 +111,9 @@ fn answer(search: Search<'_>, tree: Tree, made: u32) -> Result<Answer, NoMemory>
 {
     let inst = search.instance();
     let _nodes = tree.nodes();
-    if !tree.accepts(inst, search.cost())? {
-        let low = tree.low(inst)?;
+    let mut bounds = search.bounds();
+    if !tree.accepts_by(inst, &mut bounds, search.cost())? {
+        let low = tree.low_by(inst, &mut bounds)?;
         let plan = search.into_plan();
         return Ok(Answer::Bracket {
             low,

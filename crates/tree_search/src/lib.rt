@@ -11,7 +11,6 @@ mod incumbent;
 mod laws;
 mod leaf_growth;
 mod leaf_maker;
-mod limits;
 mod rays;
 mod search;
 mod serving;
@@ -22,12 +21,11 @@ mod work;
 
 pub use answer::Answer;
 pub use branch_tree::Tree;
-pub use budget::{DEFAULT_BUDGET, budget_in};
-pub use growing::{grow, max_nodes};
+pub use budget::{DEFAULT_BUDGET, budget_in, max_nodes};
+pub use growing::grow;
 pub use instance_store::{Instance, NoMemory};
 pub use lane_order::LaneOrder;
 pub use laws::{answers_hold, searches_end};
-pub use limits::MAX_DUALS;
 pub use plan_meaning::Plan;
 pub use strategy_port::{PlainStrategy, Strategy};
 

@@ -11,7 +11,7 @@ ghost use Rattle.tree_search.specs.Searching.{GoesOn, IsAt};
 
 use crate::incumbent::Incumbent;
 use crate::leaf_maker::LeafMaker;
-use dual_value::{Duals, PreparedBox, fits};
+use dual_value::{BoxBounds, Duals, PreparedBox, fits};
 use instance_store::{Instance, NoMemory};
 use lane_order::LaneOrder;
 use plan_meaning::{Plan, judge};
@@ -73,6 +73,13 @@ impl<'a> Search<'a> {
     {
         let _leaf = &self.leaf;
         self.incumbent.instance()
+    }
+
+    /// The bounds of boxes of the instance, by its order.
+    pub(crate) fn bounds(&self) -> BoxBounds<'a>
+        ensures { result ≡ self.now.best.instance }
+    {
+        BoxBounds::by_order(self.alloc, self.incumbent.instance(), self.order)
     }
 
     /// What the best plan costs, in millionths.

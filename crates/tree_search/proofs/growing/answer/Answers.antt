@@ -18,4 +18,4 @@ returns-then-not-branch c = λ budget ended.
     subst (λ p. Answers I t plan c.args.made budget (Bracket c.in_ok-low.low p t c.args.made)) (sym c.into_plan-plan.ensures.exact)
     (bracket_answers I plan budget c.args.made t c.nodes-nodes.ensures.tree c.requires.stands ended c.in_ok-low.low (c.in_ok-low.ensures.exact ∙ ap (λ (J : Instance). low_of J t) same)
     (subst (λ p. IfSome p (IsFeasible I)) c.into_plan-plan.ensures.exact c.into_plan-plan.ensures.feasible)
-    (λ all. both_ways _ c.if-not-branch.true (c.in_ok-accepts.ensures.exact.1 (subst (λ (J : Instance). AllClose J t c.cost.result) (sym same) (subst (AllClose I t) (sym c.cost.ensures) all)))))
+    (λ all. both_ways _ c.if-not-branch.true (c.in_ok-accepts_by.ensures.exact.1 (subst (λ (J : Instance). AllClose J t c.cost.result) (sym same) (subst (AllClose I t) (sym c.cost.ensures) all)))))

@@ -1,4 +1,4 @@
-use Rattle.std.proofs.Common.{◌≡◌, ◌+◌, ◌-◌, ◌≤◌, refl, sym, subst, ap, ◌∙◌, arith, true, false, Some, length}
+use Rattle.std.proofs.Common.{◌≡◌, ◌-◌, refl, sym, subst, ap, ◌∙◌, arith, true, false, length}
 use Rattle.std.specs.Prelude.{IfSome, slice_get}
 use Rattle.location_terms.specs.Instance.{Instance, IsValid, site_ids, customer_ids}
 use Rattle.tree_search.specs.Regrown.{IsKnownLeaf, IsGrownAt}
