@@ -5,7 +5,7 @@ use Rattle.std.specs.List.{list_any}
 use Rattle.std.specs.Option.{is_none, option_map, option_and_then}
 use Rattle.dualoc_cli.specs.declared.options.Options.{Options}
 use Rattle.dualoc_cli.specs.declared.words.FileForm.TheVariants.{Ufl}
-use Rattle.dualoc_cli.specs.Command.{Command, OnFile, InstanceFile, instance_file, ResultFiles, into_files, Job, SolveShort, SolveLong, ShowDuals, Check, are_names, options_of, file_of, job_on, unbudgeted, long_of, solve_command, duals_command, check_command, command_of}
+use Rattle.dualoc_cli.specs.Command.{Command, OnFile, InstanceFile, instance_file, ResultFiles, into_files, Job, SolveShort, SolveLong, ShowDuals, Check, Convert, are_names, options_of, file_of, job_on, unbudgeted, long_of, solve_command, duals_command, check_command, convert_command, command_of}
 
 -- the first of some names isn't among the others, which are names too
 first_name : (x y z : Bool) → (not x && not y && z) ≡ true → (y ≡ false) × (z ≡ true)
@@ -92,13 +92,21 @@ module _ (file : InstanceFile) (into : ResultFiles) (given : Option ℕ) where
   check_apart (a ∷ b ∷ []) e = absurd cc
   check_apart (form ∷ name ∷ certificate ∷ options) e = other_by _ form name (Check certificate) (options_of options) (λ same. cc) e
 
-  by_verb : (is_solve is_duals is_check : Bool) (words : List (List ℕ))
-      → Asks (if is_solve then solve_command words else (if is_duals then duals_command words else (if is_check then check_command words else None))) → IsApart
-  by_verb true is_duals is_check words e = solve_apart words e
-  by_verb false true is_check words e = duals_apart words e
-  by_verb false false true words e = check_apart words e
-  by_verb false false false words e = absurd cc
+  convert_apart : (words : List (List ℕ)) → Asks (convert_command words) → IsApart
+  unfolding convert_command
+  convert_apart [] e = absurd cc
+  convert_apart (a ∷ []) e = absurd cc
+  convert_apart (a ∷ b ∷ []) e = absurd cc
+  convert_apart (form ∷ name ∷ new ∷ options) e = other_by _ form name (Convert new) (options_of options) (λ same. cc) e
+
+  by_verb : (is_solve is_duals is_check is_convert : Bool) (words : List (List ℕ))
+      → Asks (if is_solve then solve_command words else (if is_duals then duals_command words else (if is_check then check_command words else (if is_convert then convert_command words else None)))) → IsApart
+  by_verb true is_duals is_check is_convert words e = solve_apart words e
+  by_verb false true is_check is_convert words e = duals_apart words e
+  by_verb false false true is_convert words e = check_apart words e
+  by_verb false false false true words e = convert_apart words e
+  by_verb false false false false words e = absurd cc
 
   pub apart : (words : List (List ℕ)) → Asks (command_of words) → IsApart
   apart [] e = absurd cc
-  apart (verb ∷ words) e = by_verb _ _ _ words e
+  apart (verb ∷ words) e = by_verb _ _ _ _ words e

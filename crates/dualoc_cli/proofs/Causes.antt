@@ -28,6 +28,7 @@ use Rattle.ufllib_read.proofs.Meant as ufl
 use Rattle.orlib_read.specs.declared.capacities.Capacities.TheVariants.{Kept, Ignored}
 use Rattle.orlib_read.proofs.Meant as warehouses
 use Rattle.pmed_paths.proofs.Meant as networks
+use Rattle.instance_text.proofs.Meant as own
 use Rattle.certificate_lines.specs.Text.{certificate_text}
 use Rattle.certificate_lines.specs.Follow.{HasSmallCosts}
 use Rattle.certificate_lines.specs.declared.kind.CertKind.{CertKind}
@@ -37,11 +38,11 @@ use Rattle.certificate_check.specs.declared.verdict.Verdict.{Verdict}
 use Rattle.certificate_check.specs.declared.verdict.Verdict.TheVariants.{Yes, No}
 use Rattle.certificate_check.specs.Verdict.{Answer, IsAnswer, IsUnread}
 use Rattle.dualoc_cli.specs.declared.words.FileForm.{FileForm}
-use Rattle.dualoc_cli.specs.declared.words.FileForm.TheVariants.{Cap, Uncap, Ufl, Pmed}
+use Rattle.dualoc_cli.specs.declared.words.FileForm.TheVariants.{Cap, Uncap, Ufl, Pmed, Own}
 use Rattle.fixed_cost.specs.declared.limits.TheConstants.{MAX_INSTANCE_BYTES}
 use Rattle.dualoc_cli.specs.declared.reply.Reply.{Reply}
 use Rattle.dualoc_cli.specs.declared.reply.Reply.TheVariants.{Optimum, Ascent, CertificateUnread, LongCertificate, Misspelt, Judged}
-use Rattle.dualoc_cli.specs.Command.{InstanceFile, Job, OnFile, SolveShort, SolveLong, ShowDuals, Check, command_of, meaning_of, meaning_in}
+use Rattle.dualoc_cli.specs.Command.{InstanceFile, Job, OnFile, SolveShort, SolveLong, ShowDuals, Check, Convert, command_of, meaning_of, meaning_in}
 use Rattle.dualoc_cli.specs.Due.{Run, IsTooLong, HasTask, FailsToRead, IsRaised, IsAnswered, IsConfirmed, IsCause, ChangesNoFile, KeepsFiles}
 use Rattle.dualoc_cli.specs.Step.{Covers, IsPrintable}
 use Rattle.dualoc_cli.proofs.Commands.{suited}
@@ -94,6 +95,7 @@ keeps r SolveShort same = same
 keeps r (SolveLong into given) same = inl same
 keeps r ShowDuals same = same
 keeps r (Check certificate) same = same
+keeps r (Convert new) same = inl same
 
 pub changes_none : (r : Run) (old new : ShelfState) → Covers r old new → new.files ≡ old.files → ChangesNoFile r
 changes_none r old new part same = sym part.left ∙ same ∙ part.files
@@ -131,6 +133,7 @@ valid_in Cap given bytes I small means = warehouses.valid-meant (Kept given) byt
 valid_in Uncap given bytes I small means = warehouses.valid-meant Ignored bytes I tt means
 valid_in Ufl given bytes I small means = ufl.valid-meant bytes I means
 valid_in Pmed given bytes I small means = networks.valid-meant bytes I means
+valid_in Own given bytes I small means = own.valid-meant bytes I means
 
 pub task_valid : (r : Run) (job : Job) (I : Instance) → HasTask r job I → IsValid I
 task_valid r job I task = valid_in task.file.form task.file.given task.bytes I (suited r.words task.file job task.asked.words_are).small task.means

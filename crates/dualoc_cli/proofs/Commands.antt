@@ -11,7 +11,7 @@ use Rattle.instance_store.specs.Small.{IsSmall}
 use Rattle.dualoc_cli.specs.declared.options.Options.{Options}
 use Rattle.dualoc_cli.specs.declared.words.FileForm.{FileForm}
 use Rattle.dualoc_cli.specs.declared.words.FileForm.TheVariants.{Cap, Ufl}
-use Rattle.dualoc_cli.specs.Command.{Command, OnFile, InstanceFile, instance_file, ResultFiles, into_files, Job, SolveShort, SolveLong, ShowDuals, Check, are_names, form_of, budget_of, capacity_of, options_with, both_options, options_of, file_of, job_on, unbudgeted, long_of, solve_command, duals_command, check_command, command_of}
+use Rattle.dualoc_cli.specs.Command.{Command, OnFile, InstanceFile, instance_file, ResultFiles, into_files, Job, SolveShort, SolveLong, ShowDuals, Check, Convert, are_names, form_of, budget_of, capacity_of, options_with, both_options, options_of, file_of, job_on, unbudgeted, long_of, solve_command, duals_command, check_command, convert_command, command_of}
 use Rattle.dualoc_cli.specs.Step.{IsSuited}
 
 -- The capacity that options give is an amount.
@@ -126,11 +126,20 @@ check_sound (a ∷ b ∷ []) = tt
 check_sound (form ∷ name ∷ certificate ∷ options) =
     sound_if (are_names (name ∷ certificate ∷ [])) _ (unbudgeted_sound form name (Check certificate) (options_of options) (λ same. cc) (options_small options))
 
+convert_sound : (words : List (List ℕ)) → Sound (convert_command words)
+unfolding convert_command
+convert_sound [] = tt
+convert_sound (a ∷ []) = tt
+convert_sound (a ∷ b ∷ []) = tt
+convert_sound (form ∷ name ∷ new ∷ options) =
+    sound_if (are_names (name ∷ new ∷ [])) _ (unbudgeted_sound form name (Convert new) (options_of options) (λ same. cc) (options_small options))
+
 command_sound : (words : List (List ℕ)) → Sound (command_of words)
 command_sound [] = tt
 command_sound (verb ∷ words) =
     either_sound (bytes_eq verb (codes "solve")) (solve_command words) _ (solve_sound words)
-    (either_sound (bytes_eq verb (codes "duals")) (duals_command words) _ (duals_sound words) (sound_if (bytes_eq verb (codes "check")) (check_command words) (check_sound words)))
+    (either_sound (bytes_eq verb (codes "duals")) (duals_command words) _ (duals_sound words)
+    (either_sound (bytes_eq verb (codes "check")) (check_command words) _ (check_sound words) (sound_if (bytes_eq verb (codes "convert")) (convert_command words) (convert_sound words))))
 
 pub suited : (words : List (List ℕ)) (file : InstanceFile) (job : Job) → command_of words ≡ Some (OnFile file job) → IsSuited file job
 suited words file job e = subst Sound e (command_sound words)

@@ -1,6 +1,7 @@
 pub mod Apart
 pub mod Causes
 pub mod Commands
+pub mod Converting
 pub mod NoCommands
 pub mod Outcomes
 pub mod Searching

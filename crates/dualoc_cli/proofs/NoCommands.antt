@@ -1,7 +1,7 @@
 -- Words of a length that no command has.
-use Rattle.std.proofs.Common.{◌≡◌, ℕ, ◌<◌, ◌≤◌, List, [], ◌∷◌, map, length, Option, None, refl, arith}
+use Rattle.std.proofs.Common.{◌≡◌, ℕ, ◌<◌, ◌≤◌, List, [], ◌∷◌, map, length, None, refl, arith}
 use Rattle.std.proofs.lemmas.List.{length-map}
-use Rattle.dualoc_cli.specs.Command.{options_of, solve_command, duals_command, check_command}
+use Rattle.dualoc_cli.specs.Command.{options_of, solve_command, duals_command, check_command, convert_command}
 
 module _ {X : Type 0} (f : X → List ℕ) (words : List X) where
   many : (n : ℕ) → n ≤ length words → n ≤ length (map f words)
@@ -38,6 +38,13 @@ none_of_two (a ∷ []) h = refl
 none_of_two (a ∷ b ∷ []) h = refl
 none_of_two (a ∷ b ∷ c ∷ rest) h = absurd (omega (arith, h))
 
+none_of_two_names : (words : List (List ℕ)) → length words < 3 → None ≡ convert_command words
+unfolding convert_command
+none_of_two_names [] h = refl
+none_of_two_names (a ∷ []) h = refl
+none_of_two_names (a ∷ b ∷ []) h = refl
+none_of_two_names (a ∷ b ∷ c ∷ rest) h = absurd (omega (arith, h))
+
 pub no_options : {X : Type 0} (f : X → List ℕ) (words : List X) → 3 ≤ length words → None ≡ options_of (map f words)
 no_options f words h = none_of_many (map f words) (many f words 3 h)
 
@@ -49,3 +56,6 @@ no_duals f words h = none_of_one (map f words) (few f words 2 h)
 
 pub no_check : {X : Type 0} (f : X → List ℕ) (words : List X) → length words < 3 → None ≡ check_command (map f words)
 no_check f words h = none_of_two (map f words) (few f words 3 h)
+
+pub no_convert : {X : Type 0} (f : X → List ℕ) (words : List X) → length words < 3 → None ≡ convert_command (map f words)
+no_convert f words h = none_of_two_names (map f words) (few f words 3 h)

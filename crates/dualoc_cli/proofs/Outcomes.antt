@@ -5,7 +5,6 @@ use Rattle.std.specs.FinMap.{get}
 use Rattle.std.proofs.lemmas.Bool.{lt-ltb, cond-true, cond-false, false_from_ne_true, ltb-true}
 use Rattle.shelf_port.specs.Files.{MayHold}
 use Rattle.shelf_port.specs.Streams.{with_back}
-use Rattle.shelf_port.specs.Ports.{Ports}
 use Rattle.location_terms.specs.Instance.{Instance}
 use Rattle.fixed_cost.specs.declared.fault.FileFault.{FileFault}
 use Rattle.set_walk.specs.declared.TheConstants.{MAX_WALK_SITES}
@@ -31,11 +30,11 @@ use Rattle.fixed_cost.specs.declared.limits.TheConstants.{MAX_INSTANCE_BYTES}
 use Rattle.dualoc_cli.specs.declared.status.Status.{Status}
 use Rattle.dualoc_cli.specs.declared.status.Status.TheVariants.{Done, Infeasible, Bracket, CheckNo, Usage, BadInput, ReadFault, WriteFault, TooLarge, NoMemory}
 use Rattle.dualoc_cli.specs.declared.reply.Reply.{Reply}
-use Rattle.dualoc_cli.specs.declared.reply.Reply.TheVariants.{NoCommand, InstanceUnread, LongInstance, Faulty, ManySites, Optimum, LargeBudget, Unwritten, Searched, Ascent, CertificateUnread, LongCertificate, Misspelt, Judged}
-use Rattle.dualoc_cli.specs.Command.{Command, OnFile, InstanceFile, ResultFiles, Job, SolveShort, SolveLong, ShowDuals, Check, command_of, meaning_in}
+use Rattle.dualoc_cli.specs.declared.reply.Reply.TheVariants.{NoCommand, InstanceUnread, LongInstance, Faulty, ManySites, Optimum, LargeBudget, Unwritten, Searched, Ascent, CertificateUnread, LongCertificate, Misspelt, Judged, Converted, Unconverted}
+use Rattle.dualoc_cli.specs.Command.{Command, OnFile, InstanceFile, ResultFiles, Job, SolveShort, SolveLong, ShowDuals, Check, Convert, command_of, meaning_in}
 use Rattle.dualoc_cli.specs.Status.{when_cut}
 use Rattle.dualoc_cli.specs.Reply.{status_of, status_of_claim, text_of}
-use Rattle.dualoc_cli.specs.Due.{Run, AsksFor, HasTask, InstanceFails, CertificateFails, HasManySites, HasLargeBudget, HasSearch, IsSearched, IsEnd, IsUnwritten, HasFileFault, IsAnswered, IsCause, IsPrinted, Ends, KeepsFiles, Leaves, ChangesNoFile, IsRefusalStatus, IsResult, IsSettledAtStart, IsTold, IsHindered, MemoryRanOut, InstanceFailed, CertificateFailed, ResultFailed, OutputFailed, EndsAs, EndsSearch, DeservesYes, IsChecked, IsComplete, Runs}
+use Rattle.dualoc_cli.specs.Due.{Run, AsksFor, HasTask, InstanceFails, CertificateFails, HasManySites, HasLargeBudget, IsSearched, IsEnd, IsUnwritten, IsUnconverted, HasFileFault, IsAnswered, IsCause, IsPrinted, Ends, Leaves, ChangesNoFile, IsRefusalStatus, IsResult, IsSettledAtStart, IsTold, IsHindered, MemoryRanOut, InstanceFailed, CertificateFailed, ResultFailed, NewFailed, OutputFailed, EndsAs, EndsSearch, DeservesYes, IsChecked, IsComplete, Runs}
 use Rattle.tree_search.specs.Budget.{max_budget, budget_in}
 
 -- a status after a write that failed is no result
@@ -121,6 +120,8 @@ module _ (r : Run) where
   words_are (Misspelt kind line) cause = task_words (Check cause.name) cause.instance cause.task
   words_are (Judged (Yes claim)) cause = task_words (Check cause.name) cause.instance cause.task
   words_are (Judged (No line why)) cause = task_words (Check cause.name) cause.instance cause.task
+  words_are (Converted m n) cause = task_words (Convert cause.new) cause.instance cause.task
+  words_are Unconverted cause = task_words (Convert cause.new) cause.begun.instance cause.begun.task
 
   -- what is due for an instance
   abbrev Worked : Job → Instance → Outcome → Type 0
@@ -129,6 +130,7 @@ module _ (r : Run) where
   Worked ShowDuals I due = due ≡ Exactly Done
   Worked (Check name) I due =
       (bytes : List ℕ) × MayHold r.before.shelf.files name bytes × ((answer : Answer) × IsAnswer MAX_CERTIFICATE_BYTES I bytes answer × (due ≡ Exactly (status_in answer)))
+  Worked (Convert new) I due = due ≡ Exactly Done
 
   abbrev Meant : Job → Result Instance FileFault → Outcome → Type 0
   Meant job (Ok I) due = Worked job I due
@@ -148,7 +150,9 @@ module _ (r : Run) where
 
   -- a read or a write of a file failed, and the status says so
   abbrev Fails : Status → Type 0
-  Fails status = (InstanceFails r × (status ≡ ReadFault)) ⊎ ((CertificateFails r × (status ≡ ReadFault)) ⊎ (IsUnwritten r × (status ≡ WriteFault)))
+  Fails status =
+      (InstanceFails r × (status ≡ ReadFault))
+      ⊎ ((CertificateFails r × (status ≡ ReadFault)) ⊎ ((IsUnwritten r × (status ≡ WriteFault)) ⊎ (IsUnconverted r × (status ≡ WriteFault))))
 
   meant : (job : Job) (meaning : Result Instance FileFault) (I : Instance) (due : Outcome) → meaning ≡ Ok I → Worked job I due → Meant job meaning due
   meant job meaning I due means worked = subst (λ m. Meant job m due) (sym means) worked
@@ -184,6 +188,9 @@ module _ (r : Run) where
 
   duals_are_due : (I : Instance) → HasTask r ShowDuals I → IsDue (Exactly Done)
   duals_are_due I task = task_is_due ShowDuals I (Exactly Done) task refl
+
+  conversion_is_due : (new : List ℕ) (I : Instance) → HasTask r (Convert new) I → IsDue (Exactly Done)
+  conversion_is_due new I task = task_is_due (Convert new) I (Exactly Done) task refl
 
   fault_is_due : (fault : FileFault) → HasFileFault r fault → IsDue (Exactly BadInput)
   fault_is_due fault a =
@@ -229,7 +236,7 @@ module _ (r : Run) where
   cause_is_due ManySites cause = inl (Exactly TooLarge, many_is_due cause, refl)
   cause_is_due (Optimum I P cost) cause = inl (Exactly Done, few_is_due I cause.task cause.few, refl)
   cause_is_due LargeBudget cause = inl (Exactly TooLarge, large_is_due cause, refl)
-  cause_is_due Unwritten cause = inr (inr (inr (cause, refl)))
+  cause_is_due Unwritten cause = inr (inr (inr (inl (cause, refl))))
   cause_is_due (Searched claim nodes budget) cause = inl (Search cause.instance budget, stored_is_due claim nodes budget cause, stored_suits claim nodes budget cause)
   cause_is_due (Ascent I d) cause = inl (Exactly Done, duals_are_due I cause.task, refl)
   cause_is_due CertificateUnread cause = inr (inr (inl (cause, refl)))
@@ -237,6 +244,8 @@ module _ (r : Run) where
   cause_is_due (Misspelt kind line) cause = inl (Exactly CheckNo, answer_is_due (Err (Text kind line)) cause, refl)
   cause_is_due (Judged (Yes claim)) cause = inl (Exactly Done, accepted_is_due cause.instance cause.name cause.cert cause.task cause.deserved cause.held, refl)
   cause_is_due (Judged (No line why)) cause = inl (Exactly CheckNo, answer_is_due (Ok (No line why)) cause, refl)
+  cause_is_due (Converted m n) cause = inl (Exactly Done, conversion_is_due cause.new cause.instance cause.task, refl)
+  cause_is_due Unconverted cause = inr (inr (inr (inr (cause, refl))))
 
   -- a reply that is settled has its own status due
   settled_is_due : (reply : Reply) → IsCause r reply → IsSettledAtStart reply → IsDue (Exactly (status_of reply))
@@ -256,6 +265,8 @@ module _ (r : Run) where
   settled_is_due (Misspelt kind line) cause sure = answer_is_due (Err (Text kind line)) cause
   settled_is_due (Judged (Yes claim)) cause sure = accepted_is_due cause.instance cause.name cause.cert cause.task cause.deserved cause.held
   settled_is_due (Judged (No line why)) cause sure = answer_is_due (Ok (No line why)) cause
+  settled_is_due (Converted m n) cause sure = conversion_is_due cause.new cause.instance cause.task
+  settled_is_due Unconverted cause sure = absurd sure
 
   -- Where the files are told, one status is due.
   module _ (told : IsTold r) where
@@ -274,6 +285,7 @@ module _ (r : Run) where
         let same : q.0 ≡ p.0 = same_bytes name q.0 p.0 q.1 p.1 in
         let once : p.2.0 ≡ q.2.0 = one_answer MAX_CERTIFICATE_BYTES I p.0 p.2.0 q.2.0 p.2.1 (subst (λ bytes. IsAnswer MAX_CERTIFICATE_BYTES I bytes q.2.0) same q.2.1) in
         p.2.2 ∙ ap (λ answer. Exactly (status_in answer)) once ∙ sym q.2.2
+    worked_once (Convert new) I s t p q = p ∙ sym q
 
     meant_once : (job : Job) (meaning : Result Instance FileFault) (s t : Outcome) → Meant job meaning s → Meant job meaning t → s ≡ t
     meant_once job (Ok I) s t p q = worked_once job I s t p q
@@ -299,12 +311,14 @@ module _ (r : Run) where
     failed : (due before status : Status) → Fails before → status ≡ before → IsHindered r due status
     failed due before status (inl a) is = InstanceFailed a.0 (is ∙ a.1)
     failed due before status (inr (inl a)) is = CertificateFailed a.0 (is ∙ a.1)
-    failed due before status (inr (inr a)) is = ResultFailed a.0 (is ∙ a.1)
+    failed due before status (inr (inr (inl a))) is = ResultFailed a.0 (is ∙ a.1)
+    failed due before status (inr (inr (inr a))) is = NewFailed a.0 (is ∙ a.1)
 
     fails_cut : (before : Status) → Fails before → when_cut before ≡ before
     fails_cut before (inl a) = ap when_cut a.1 ∙ sym a.1
     fails_cut before (inr (inl a)) = ap when_cut a.1 ∙ sym a.1
-    fails_cut before (inr (inr a)) = ap when_cut a.1 ∙ sym a.1
+    fails_cut before (inr (inr (inl a))) = ap when_cut a.1 ∙ sym a.1
+    fails_cut before (inr (inr (inr a))) = ap when_cut a.1 ∙ sym a.1
 
     abbrev EndsDue : Outcome → Status → Type 0
     EndsDue due status = Suits due status ⊎ IsHindered r (due_of due) status
@@ -354,6 +368,7 @@ module _ (r : Run) where
     no_hindered status (inr (InstanceFailed fails is)) = inr (inr (InstanceFailed fails is))
     no_hindered status (inr (CertificateFailed fails is)) = inr (inr (CertificateFailed fails is))
     no_hindered status (inr (ResultFailed fails is)) = inr (inr (ResultFailed fails is))
+    no_hindered status (inr (NewFailed fails is)) = inr (inr (NewFailed fails is))
     no_hindered status (inr (OutputFailed rose is)) = inr (inr (OutputFailed rose is))
 
     said : (status : Status) (bytes : List ℕ) (answer : Answer) → length bytes ≤ MAX_CERTIFICATE_BYTES → IsDecided MAX_CERTIFICATE_BYTES bytes answer
@@ -381,6 +396,7 @@ module _ (r : Run) where
     complete status ends (SolveLong into given) I task = λ within. search_ends I (budget_in I given) status (ends_as_due (Search I (budget_in I given)) status (search_is_due into given I task within) ends)
     complete status ends ShowDuals I task = ends_as_due (Exactly Done) status (duals_are_due I task) ends
     complete status ends (Check name) I task = checked status ends name I task
+    complete status ends (Convert new) I task = ends_as_due (Exactly Done) status (conversion_is_due new I task) ends
 
   -- Where the words are no command, that alone is answered.
   usage_of : (reply : Reply) → IsCause r reply → command_of r.words ≡ None → status_of reply ≡ Usage

@@ -1,15 +1,15 @@
 -- What a search may start from, and what it comes to.
-use Rattle.std.proofs.Common.{◌≡◌, ◌↔◌, ℕ, zero, suc, ◌+◌, ◌*◌, ◌/◌, ◌^◌, ◌<◌, ◌≤◌, ◌==◌, Bool, true, false, List, [], ◌∷◌, map, length, min, get_or, Option, None, Some, refl, sym, ap, subst, ◌∙◌, inl, inr, arith}
-use Rattle.std.specs.Prelude.{All, Result, Ok, Err, IfOk, IfSome, IsTrue, fold, filter, find, sum_by, unwrap_or, option_map, nat_lt, slice_get, if◌then◌else◌}
+use Rattle.std.proofs.Common.{◌≡◌, ◌↔◌, ℕ, zero, suc, ◌+◌, ◌*◌, ◌^◌, ◌<◌, ◌≤◌, ◌==◌, Bool, true, false, List, [], ◌∷◌, length, min, get_or, Option, None, Some, refl, sym, ap, subst, ◌∙◌, inl, inr, arith}
+use Rattle.std.specs.Prelude.{All, Result, Ok, Err, IfOk, IfSome, IsTrue, fold, filter, find, unwrap_or, option_map, nat_lt, slice_get, if◌then◌else◌}
 use Rattle.std.proofs.Math.Nat.{min-le_left, pow-le-pow_right}
 use Rattle.std.proofs.lemmas.Bool.{cond_both}
 use Rattle.std.proofs.lemmas.Nat.{mul-le}
 use Rattle.std.proofs.lemmas.List.{length-map}
 use Rattle.std.proofs.lemmas.List.Sums.{sum_by-le}
 use Rattle.std.proofs.lemmas.List.Elements.{All-nil, All-cons, All-head, All-tail}
-use Rattle.location_terms.specs.declared.limits.TheConstants.{MAX_AMOUNT, MAX_COST, MAX_SITES, MAX_CUSTOMERS}
+use Rattle.location_terms.specs.declared.limits.TheConstants.{MAX_AMOUNT, MAX_COST}
 use Rattle.location_terms.specs.Instance.{Instance, Site, IsValid, lane, fixed_of}
-use Rattle.location_terms.specs.Plan.{Plan, IsFeasible, served, cost_of}
+use Rattle.location_terms.specs.Plan.{Plan, IsFeasible, cost_of}
 use Rattle.location_terms.specs.Box.{Path}
 use Rattle.location_terms.specs.Bound.{Duals, bound_of}
 use Rattle.location_terms.specs.Fit.{DualsFit, BoundCloses, Closes}
@@ -19,7 +19,7 @@ use Rattle.location_terms.proofs.Claims.{claim_holds}
 use Rattle.dual_value.specs.Zeros.{zeros}
 use Rattle.dual_value.proofs.Zeros.{zeros_fit}
 use Rattle.branch_tree.specs.Made.{leaf_of}
-use Rattle.tree_search.specs.Answer.{IsSearchStart, AreHeld, most_decisions, IsWithin, IsAnswerTo, cost_in, plan_in, tree_in, made_in, claim_in, certificate_in}
+use Rattle.tree_search.specs.Answer.{IsSearchStart, AreHeld, most_decisions, IsWithin, IsAnswerTo, plan_in, tree_in, made_in, claim_in, certificate_in}
 use Rattle.tree_search.specs.Grown.{IsGrownFrom}
 use Rattle.tree_search.proofs.Decided.{grown_within}
 use Rattle.tree_search.specs.declared.answer.Answer.{Answer}

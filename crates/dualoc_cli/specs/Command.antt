@@ -1,5 +1,5 @@
 -- The commands, by the words of a command line.
-use Rattle.std.specs.Prelude.{◌==◌, ℕ, Bool, true, false, ◌&&◌, not, List, [], ◌∷◌, length, take, drop, Option, None, Some, Result, Ok, Err, codes, decimal, bytes_eq, if◌then◌else◌}
+use Rattle.std.specs.Prelude.{◌==◌, ℕ, Bool, true, ◌&&◌, not, List, [], ◌∷◌, length, take, drop, Option, None, Some, Result, Ok, Err, codes, decimal, bytes_eq, if◌then◌else◌}
 use Rattle.std.specs.List.{list_any}
 use Rattle.std.specs.Option.{is_none, option_map, option_and_then, option_or}
 use Rattle.std.specs.Result.{result_ok}
@@ -11,15 +11,17 @@ use Rattle.ufllib_read.specs.Ufl.{ufl_meaning}
 use Rattle.orlib_read.specs.Warehouses.{warehouse_meaning}
 use Rattle.orlib_read.specs.declared.capacities.Capacities.TheVariants.{Kept, Ignored}
 use Rattle.pmed_paths.specs.Pmed.{median_meaning}
+use Rattle.instance_text.specs.Own.{own_meaning}
 use Rattle.dualoc_cli.specs.declared.options.Options.{Options}
 use Rattle.dualoc_cli.specs.declared.words.FileForm.{FileForm}
-use Rattle.dualoc_cli.specs.declared.words.FileForm.TheVariants.{Cap, Uncap, Ufl, Pmed}
+use Rattle.dualoc_cli.specs.declared.words.FileForm.TheVariants.{Cap, Uncap, Ufl, Pmed, Own}
 
 -- the form of instance files that a word names; a word that names a form that isn't read is no command's
 abbrev pub form_of : List ℕ → Option FileForm
 form_of word =
     if bytes_eq word (codes "cap") then Some Cap
-    else (if bytes_eq word (codes "uncap") then Some Uncap else (if bytes_eq word (codes "ufl") then Some Ufl else (if bytes_eq word (codes "pmed") then Some Pmed else None)))
+    else (if bytes_eq word (codes "uncap") then Some Uncap
+    else (if bytes_eq word (codes "ufl") then Some Ufl else (if bytes_eq word (codes "pmed") then Some Pmed else (if bytes_eq word (codes "own") then Some Own else None))))
 
 -- what the bytes of a file of a form mean: an instance, or the first fault; given is the amount of the option `capacity`, in millionths, where it is there
 abbrev pub meaning_of : FileForm → Option ℕ → List ℕ → Result Instance FileFault
@@ -27,6 +29,7 @@ meaning_of Cap given bytes = warehouse_meaning (Kept given) bytes
 meaning_of Uncap given bytes = warehouse_meaning Ignored bytes
 meaning_of Ufl given bytes = ufl_meaning bytes
 meaning_of Pmed given bytes = median_meaning bytes
+meaning_of Own given bytes = own_meaning bytes
 
 -- the file of an instance: its form, its name, and the amount of the option `capacity`, where it is there
 pub record InstanceFile : Type 0 where
@@ -47,12 +50,14 @@ pub record ResultFiles : Type 0 where
   pub certificate : List ℕ
 
 -- what is to be done with the instance: to solve it by a walk over all sets of sites, to solve it by a search within a budget of nodes,
--- or a budget of its own where none is given, to show the duals to which an ascent raises them, or to check the certificate in a file against it
+-- or a budget of its own where none is given, to show the duals to which an ascent raises them, to check the certificate in a file against it,
+-- or to convert it: to write it to a new file in the suite's own form
 pub data Job : Type 0 where
   SolveShort : Job
   SolveLong : (into : ResultFiles) (given : Option ℕ) → Job
   ShowDuals : Job
   Check : (certificate : List ℕ) → Job
+  Convert : (new : List ℕ) → Job
 
 -- what words ask for
 pub data Command : Type 0 where
@@ -138,8 +143,15 @@ check_command (form ∷ file ∷ certificate ∷ options) =
     if are_names (file ∷ certificate ∷ []) then option_and_then (unbudgeted form file (Check certificate)) (options_of options) else None
 check_command _ = None
 
+-- the words behind `convert`
+unfoldable pub convert_command : List (List ℕ) → Option Command
+convert_command (form ∷ file ∷ new ∷ options) = if are_names (file ∷ new ∷ []) then option_and_then (unbudgeted form file (Convert new)) (options_of options) else None
+convert_command _ = None
+
 -- the command of the words, if they are those of one
 abbrev pub command_of : List (List ℕ) → Option Command
 command_of [] = None
 command_of (verb ∷ words) =
-    if bytes_eq verb (codes "solve") then solve_command words else (if bytes_eq verb (codes "duals") then duals_command words else (if bytes_eq verb (codes "check") then check_command words else None))
+    if bytes_eq verb (codes "solve") then solve_command words
+    else (if bytes_eq verb (codes "duals") then duals_command words
+    else (if bytes_eq verb (codes "check") then check_command words else (if bytes_eq verb (codes "convert") then convert_command words else None)))

@@ -22,6 +22,8 @@ use Rattle.tree_search.specs.Grown.{IsGrownFrom, PlansWereSought}
 use Rattle.tree_search.specs.Answer.{IsBracketCause, most_decisions}
 use Rattle.tree_search.specs.Budget.{max_budget, budget_in}
 use Rattle.report.specs.PlanText.{plan_text_of}
+use Rattle.instance_text.specs.Own.{own_meaning}
+use Rattle.instance_text.specs.OwnText.{own_text}
 use Rattle.certificate_lines.specs.Text.{certificate_text}
 use Rattle.certificate_lines.specs.Follow.{HasSmallCosts}
 use Rattle.certificate_lines.specs.declared.limits.TheConstants.{MAX_CERTIFICATE_BYTES}
@@ -32,8 +34,8 @@ use Rattle.fixed_cost.specs.declared.limits.TheConstants.{MAX_INSTANCE_BYTES}
 use Rattle.dualoc_cli.specs.declared.status.Status.{Status}
 use Rattle.dualoc_cli.specs.declared.status.Status.TheVariants.{Done, Infeasible, Bracket, CheckNo, Usage, BadInput, ReadFault, WriteFault, TooLarge, NoMemory}
 use Rattle.dualoc_cli.specs.declared.reply.Reply.{Reply}
-use Rattle.dualoc_cli.specs.declared.reply.Reply.TheVariants.{NoCommand, InstanceUnread, LongInstance, Faulty, ManySites, Optimum, LargeBudget, Unwritten, Searched, Ascent, CertificateUnread, LongCertificate, Misspelt, Judged}
-use Rattle.dualoc_cli.specs.Command.{Command, OnFile, InstanceFile, ResultFiles, Job, SolveShort, SolveLong, ShowDuals, Check, command_of, meaning_in}
+use Rattle.dualoc_cli.specs.declared.reply.Reply.TheVariants.{NoCommand, InstanceUnread, LongInstance, Faulty, ManySites, Optimum, LargeBudget, Unwritten, Searched, Ascent, CertificateUnread, LongCertificate, Misspelt, Judged, Converted, Unconverted}
+use Rattle.dualoc_cli.specs.Command.{Command, OnFile, InstanceFile, ResultFiles, Job, SolveShort, SolveLong, ShowDuals, Check, Convert, command_of, meaning_in}
 use Rattle.dualoc_cli.specs.Status.{when_cut}
 use Rattle.dualoc_cli.specs.Reply.{status_of, text_of}
 
@@ -220,6 +222,30 @@ pub record IsConfirmed (r : Run) (claim : Claim) : Type 0 where
   pub claims : cert.claim ≡ claim
   pub holds : ClaimHolds instance claim cert.plan
 
+-- The instance that is to be converted has so many sites and customers, and stands in the new file as its one text in the suite's own form; every other file is as at the start.
+-- A file with that text is within the limit, and means this instance in the form `own`.
+pub record IsConverted (r : Run) (m n : ℕ) : Type 0 where
+  pub instance : Instance
+  pub new : List ℕ
+  pub task : HasTask r (Convert new) instance
+  pub sites_are : length instance.sites ≡ m
+  pub customers_are : length instance.customers ≡ n
+  pub written : r.after.shelf.files ≡ with_file r.before.shelf.files new (own_text instance)
+  pub within : length (own_text instance) ≤ MAX_INSTANCE_BYTES
+  pub read_back : own_meaning (own_text instance) ≡ Ok instance
+
+-- an instance is to be converted, and the files are as at the start, but the new one may hold a front of the instance's text
+pub record HasNewBegun (r : Run) (new : List ℕ) : Type 0 where
+  pub instance : Instance
+  pub task : HasTask r (Convert new) instance
+  pub left : LeavesPrefix r.before.shelf.files r.after.shelf.files new (own_text instance)
+
+-- a write of the new file failed
+pub record IsUnconverted (r : Run) : Type 0 where
+  pub new : List ℕ
+  pub begun : HasNewBegun r new
+  pub fails : FailsToWrite r new
+
 -- what is the case where a run may answer so
 abbrev pub IsCause : Run → Reply → Type 0
 IsCause r NoCommand = command_of r.words ≡ None
@@ -237,6 +263,8 @@ IsCause r LongCertificate = IsAnswered r (Err TooLong)
 IsCause r (Misspelt kind line) = IsAnswered r (Err (Text kind line))
 IsCause r (Judged (Yes claim)) = IsConfirmed r claim
 IsCause r (Judged (No line why)) = IsAnswered r (Ok (No line why))
+IsCause r (Converted m n) = IsConverted r m n
+IsCause r Unconverted = IsUnconverted r
 
 -- What is printed.
 
@@ -277,7 +305,7 @@ pub record EndsWithReply (r : Run) (status : Status) : Type 0 where
   pub untouched : IsRefusalStatus (status_of reply) → ChangesNoFile r
   pub printed : IsPrinted (text_of reply) (status_of reply) status r.before.output r.after.output
 
--- a run ends with a reply, or memory ran out before its text was there; the files of a result may then be whole already
+-- a run ends with a reply, or memory ran out before its text was there; the files of a result, or the new one, may then be whole already
 abbrev pub Ends : Run → Status → Type 0
 Ends r status = EndsWithReply r status ⊎ IsPrinted (codes "no memory\n") NoMemory status r.before.output r.after.output
 
@@ -291,12 +319,13 @@ pub record HasBegun (r : Run) (into : ResultFiles) : Type 0 where
   pub result : HasResult r into instance budget cert
   pub left : IsPlanBegun r into instance cert ⊎ IsCertificateBegun r into instance cert
 
--- which files a job may change: the long form of `solve` those of its result, and any other none
+-- which files a job may change: the long form of `solve` those of its result, a conversion the new one, and any other none
 abbrev pub KeepsFiles : Run → Job → Type 0
 KeepsFiles r SolveShort = ChangesNoFile r
 KeepsFiles r (SolveLong into given) = ChangesNoFile r ⊎ HasBegun r into
 KeepsFiles r ShowDuals = ChangesNoFile r
 KeepsFiles r (Check certificate) = ChangesNoFile r
+KeepsFiles r (Convert new) = ChangesNoFile r ⊎ HasNewBegun r new
 
 abbrev pub Leaves : Run → Option Command → Type 0
 Leaves r None = ChangesNoFile r
@@ -321,6 +350,7 @@ abbrev pub IsSettledAtStart : Reply → Type 0
 IsSettledAtStart InstanceUnread = ⊥
 IsSettledAtStart CertificateUnread = ⊥
 IsSettledAtStart Unwritten = ⊥
+IsSettledAtStart Unconverted = ⊥
 IsSettledAtStart (Searched claim nodes budget) = ⊥
 IsSettledAtStart reply = Unit {0}
 
@@ -330,6 +360,7 @@ pub data IsHindered (r : Run) (due status : Status) : Type 0 where
   InstanceFailed : InstanceFails r → status ≡ ReadFault → IsHindered r due status
   CertificateFailed : CertificateFails r → status ≡ ReadFault → IsHindered r due status
   ResultFailed : IsUnwritten r → status ≡ WriteFault → IsHindered r due status
+  NewFailed : IsUnconverted r → status ≡ WriteFault → IsHindered r due status
   OutputFailed : Rose r.before.output.faults r.after.output.faults → status ≡ when_cut due → IsHindered r due status
 
 abbrev pub EndsAs : Run → Status → Status → Type 0
@@ -351,6 +382,7 @@ IsComplete r SolveShort I status = length I.sites ≤ MAX_WALK_SITES → EndsAs 
 IsComplete r (SolveLong into given) I status = budget_in I given ≤ max_budget I → EndsSearch r I (budget_in I given) status
 IsComplete r ShowDuals I status = EndsAs r Done status
 IsComplete r (Check name) I status = IsChecked r name I status
+IsComplete r (Convert new) I status = EndsAs r Done status
 
 -- What a run does.
 pub record Runs (r : Run) (status : Status) : Type 0 where
@@ -361,13 +393,14 @@ pub record Runs (r : Run) (status : Status) : Type 0 where
   pub input : r.after.input ≡ r.before.input
   -- so where something is refused, or can't be read, no file is changed at all
   pub untouched : IsRefusalStatus status → ChangesNoFile r
-  -- So what is printed with the status of a result holds: it is the text of an optimal plan, that of raised duals, the verdict on a certificate, or the line
-  -- of a search whose plan and certificate stand in their files; and it is all of it. The words settle which of these it is: a search's line comes in the long form
-  -- of `solve` alone, and there no other result does. A front of such a line, too, stands in the output only where both files hold their whole texts, by the cause in `ends`.
+  -- So what is printed with the status of a result holds: it is the text of an optimal plan, that of raised duals, the verdict on a certificate, the line
+  -- of a search whose plan and certificate stand in their files, or that of a conversion whose new file stands; and it is all of it. The words settle which of these it is: a
+  -- search's line comes in the long form of `solve` alone, and there no other result does. A front of such a line, too, stands in the output only where both files hold their
+  -- whole texts, by the cause in `ends`; and one of a conversion's line only where the new file does.
   pub results : IsResult status → (reply : Reply) × IsCause r reply × (status_of reply ≡ status) × (r.after.output.written ≡ with_back r.before.output.written (text_of reply))
   -- Words that are no command are answered so.
   pub usage : command_of r.words ≡ None → (status ≡ Usage) ⊎ (status ≡ NoMemory)
   -- Where the files are told, a reply whose cause is there gives the status, unless the run is hindered; a count that rose alone is no reason for a fault.
   pub exact : IsTold r → (reply : Reply) → IsCause r reply → IsSettledAtStart reply → EndsAs r (status_of reply) status
-  -- So an instance of few sites is solved, any instance is searched and has its duals, and a certificate has its yes or its no.
+  -- So an instance of few sites is solved, any instance is searched, has its duals and is converted, and a certificate has its yes or its no.
   pub complete : IsTold r → (job : Job) (I : Instance) → HasTask r job I → IsComplete r job I status

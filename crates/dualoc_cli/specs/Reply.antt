@@ -17,7 +17,7 @@ use Rattle.certificate_check.specs.declared.verdict.Verdict.TheVariants.{Yes, No
 use Rattle.dualoc_cli.specs.declared.status.Status.{Status}
 use Rattle.dualoc_cli.specs.declared.status.Status.TheVariants.{Done, Infeasible, Bracket, CheckNo, Usage, BadInput, ReadFault, WriteFault, TooLarge}
 use Rattle.dualoc_cli.specs.declared.reply.Reply.{Reply}
-use Rattle.dualoc_cli.specs.declared.reply.Reply.TheVariants.{NoCommand, InstanceUnread, LongInstance, Faulty, ManySites, Optimum, LargeBudget, Unwritten, Searched, Ascent, CertificateUnread, LongCertificate, Misspelt, Judged}
+use Rattle.dualoc_cli.specs.declared.reply.Reply.TheVariants.{NoCommand, InstanceUnread, LongInstance, Faulty, ManySites, Optimum, LargeBudget, Unwritten, Searched, Ascent, CertificateUnread, LongCertificate, Misspelt, Judged, Converted, Unconverted}
 
 -- the status of what a search came to
 abbrev pub status_of_claim : Claim → Status
@@ -41,6 +41,8 @@ status_of LongCertificate = TooLarge
 status_of (Misspelt kind line) = CheckNo
 status_of (Judged (Yes claim)) = Done
 status_of (Judged (No line why)) = CheckNo
+status_of (Converted m n) = Done
+status_of Unconverted = WriteFault
 
 -- the line of a no: what speaks against a certificate, with its line
 abbrev pub no_text : ℕ → Why → List ℕ
@@ -73,3 +75,5 @@ text_of LongCertificate = codes "too large certificate\n"
 text_of (Misspelt kind line) = codes "no " ++ cert_kind_name kind ++ codes " line " ++ decimal line ++ codes "\n"
 text_of (Judged (Yes claim)) = codes "yes " ++ claim_text claim ++ codes "\n"
 text_of (Judged (No line why)) = no_text line why
+text_of (Converted m n) = codes "converted sites " ++ decimal m ++ codes " customers " ++ decimal n ++ codes "\n"
+text_of Unconverted = codes "write fault\n"

@@ -7,14 +7,14 @@ use Rattle.location_terms.specs.Plan.{IsFeasible}
 use Rattle.instance_store.specs.Small.{IsSmall}
 use Rattle.report.specs.DualsText.{ArePrintable}
 use Rattle.dualoc_cli.specs.declared.reply.Reply.{Reply}
-use Rattle.dualoc_cli.specs.declared.reply.Reply.TheVariants.{NoCommand, InstanceUnread, LongInstance, Faulty, ManySites, Optimum, LargeBudget, Unwritten, Searched, Ascent, CertificateUnread, LongCertificate, Misspelt, Judged}
+use Rattle.dualoc_cli.specs.declared.reply.Reply.TheVariants.{NoCommand, InstanceUnread, LongInstance, Faulty, ManySites, Optimum, LargeBudget, Unwritten, Searched, Ascent, CertificateUnread, LongCertificate, Misspelt, Judged, Converted, Unconverted}
 use Rattle.dualoc_cli.specs.declared.words.FileForm.TheVariants.{Ufl}
 use Rattle.dualoc_cli.specs.declared.words.Command as told
 use Rattle.dualoc_cli.specs.declared.words.InstanceFile as told_file
 use Rattle.dualoc_cli.specs.declared.words.Job as told_job
 use Rattle.dualoc_cli.specs.declared.words.ResultFiles as told_result
 use Rattle.dualoc_cli.specs.declared.words.Job.TheVariants as in_memory
-use Rattle.dualoc_cli.specs.Command.{InstanceFile, ResultFiles, into_files, Job, SolveShort, SolveLong, ShowDuals, Check, Command, OnFile}
+use Rattle.dualoc_cli.specs.Command.{InstanceFile, ResultFiles, into_files, Job, SolveShort, SolveLong, ShowDuals, Check, Convert, Command, OnFile}
 use Rattle.dualoc_cli.specs.Due.{Run}
 
 -- what a command in memory asks for
@@ -29,6 +29,7 @@ asked_job in_memory.SolveShort = SolveShort
 asked_job (in_memory.SolveLong into given) = SolveLong (asked_result into) given
 asked_job in_memory.ShowDuals = ShowDuals
 asked_job (in_memory.Check certificate) = Check certificate.now
+asked_job (in_memory.Convert new) = Convert new.now
 
 abbrev pub asked : told.Command → Command
 asked command = OnFile (asked_file command.file) (asked_job command.job)
@@ -63,3 +64,5 @@ IsPrintable CertificateUnread = Unit {0}
 IsPrintable LongCertificate = Unit {0}
 IsPrintable (Misspelt kind line) = Unit {0}
 IsPrintable (Judged verdict) = Unit {0}
+IsPrintable (Converted m n) = Unit {0}
+IsPrintable Unconverted = Unit {0}

@@ -4,6 +4,7 @@
 //! the reply's text. Its contract says so: `specs/Due.antt` is the page to read.
 #![tactic(auto)]
 
+mod convert;
 mod options;
 mod program;
 mod reply;

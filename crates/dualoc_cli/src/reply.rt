@@ -45,6 +45,13 @@ pub enum Reply {
     Misspelt(CertKind, u64),
     /// The verdict on the certificate.
     Judged(Verdict),
+    /// The instance is written to the new file, and these are its numbers of sites and customers.
+    Converted {
+        sites: usize,
+        custs: usize,
+    },
+    /// A write of the new file failed.
+    Unconverted,
 }
 
 impl Reply {
@@ -56,11 +63,14 @@ impl Reply {
             Reply::NoCommand => Status::Usage,
             Reply::Faulty(_) => Status::BadInput,
             Reply::InstanceUnread | Reply::CertificateUnread => Status::ReadFault,
-            Reply::Unwritten => Status::WriteFault,
+            Reply::Unwritten | Reply::Unconverted => Status::WriteFault,
             Reply::LongInstance | Reply::ManySites | Reply::LargeBudget | Reply::LongCertificate =>
                 Status::TooLarge,
             Reply::Searched { claim, .. } => status_of_claim(*claim),
-            Reply::Optimum(..) | Reply::Ascent(..) | Reply::Judged(Verdict::Yes(_)) => Status::Done,
+            Reply::Optimum(..)
+            | Reply::Ascent(..)
+            | Reply::Judged(Verdict::Yes(_))
+            | Reply::Converted { .. } => Status::Done,
             Reply::Misspelt(..) | Reply::Judged(Verdict::No { .. }) => Status::CheckNo,
         }
     }

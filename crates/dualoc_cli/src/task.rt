@@ -10,6 +10,7 @@ ghost use Rattle.dualoc_cli.specs.Reply.{status_of};
 ghost use Rattle.dualoc_cli.specs.Due.{Run, HasTask, KeepsFiles, Leaves, IsCause, IsRefusalStatus};
 ghost use Rattle.dualoc_cli.specs.Step.{asked, asked_file, asked_job, IsSuited, Covers};
 
+use crate::convert::convert;
 use crate::reply::Reply;
 use crate::search::search;
 use crate::words::{Command, FileForm, InstanceFile, Job};
@@ -24,7 +25,7 @@ use shelf_port::{ReadWhole, Shelf, read_whole};
 use std::alloc::Global;
 
 /// What is answered to the words of a command line. The files are only read, but for those of a
-/// result.
+/// result and the new one of a conversion.
 pub fn reply_to<H: Shelf>(alloc: Global, words: &[String], shelf: &mut H) -> Result<Reply, NoMemory>
     ensures cause { IfOk result (λ reply. (r : Run) → r.words ≡ map string_bytes words.now →
         Covers r (shelf_state (H.files shelf.old) (H.read_faults shelf.old) (H.write_faults shelf.old))
@@ -80,6 +81,7 @@ fn read(alloc: Global, file: InstanceFile<'_>, bytes: &[u8]) -> Result<Instance,
         FileForm::Uncap => orlib_read::read_uncap(alloc, bytes),
         FileForm::Ufl => ufllib_read::read(alloc, bytes),
         FileForm::Pmed => pmed_paths::read(alloc, bytes),
+        FileForm::Own => instance_text::read(alloc, bytes),
     }
 }
 
@@ -116,6 +118,7 @@ fn work<H: Shelf>(
         Job::SolveLong(into, given) => search(alloc, &inst, into, given, shelf),
         Job::ShowDuals => raise(alloc, inst),
         Job::Check(certificate) => judge(alloc, &inst, shelf, certificate),
+        Job::Convert(new) => convert(alloc, &inst, new, shelf),
     }
 }
 

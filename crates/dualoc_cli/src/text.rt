@@ -26,7 +26,7 @@ pub fn text(alloc: Global, reply: &Reply) -> Result<Vec<u8>, NoMemory>
         Reply::LongInstance => line(alloc, b"too large instance\n"),
         Reply::ManySites => line(alloc, b"too large sites\n"),
         Reply::LargeBudget => line(alloc, b"too large budget\n"),
-        Reply::Unwritten => line(alloc, b"write fault\n"),
+        Reply::Unwritten | Reply::Unconverted => line(alloc, b"write fault\n"),
         Reply::LongCertificate => line(alloc, b"too large certificate\n"),
         Reply::Faulty(fault) => faulty(alloc, *fault),
         Reply::Optimum(inst, plan, cost) => {
@@ -40,6 +40,7 @@ pub fn text(alloc: Global, reply: &Reply) -> Result<Vec<u8>, NoMemory>
         Reply::Ascent(inst, duals) => duals_text(alloc, inst, duals),
         Reply::Misspelt(kind, number) => misspelt(alloc, *kind, *number),
         Reply::Judged(verdict) => judged(alloc, *verdict),
+        Reply::Converted { sites, custs } => converted(alloc, *sites, *custs),
     }
 }
 
@@ -127,4 +128,10 @@ fn open(alloc: Global, line: u64, bound: i128, q: u32) -> Result<Vec<u8>, NoMemo
     let scale = format!(in alloc; " scale {q}\n")?;
     text.extend_from_slice(scale.as_bytes())?;
     Ok(text)
+}
+
+fn converted(alloc: Global, sites: usize, custs: usize) -> Result<Vec<u8>, NoMemory>
+    ensures { IfOk result (λ text. text.items ≡ text_of (Reply.Converted sites custs)) }
+{
+    Ok(format!(in alloc; "converted sites {sites} customers {custs}\n")?.into_bytes())
 }

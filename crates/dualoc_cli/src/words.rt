@@ -1,6 +1,6 @@
 ghost use Rattle.std.specs.Prelude.{◌≡◌, [], ◌∷◌, map, string_bytes};
 ghost use Rattle.std.specs.Option.{option_map};
-ghost use Rattle.dualoc_cli.specs.Command.{command_of, solve_command, short_of, long_of, duals_command, check_command, unbudgeted, job_on, file_of, form_of, are_names};
+ghost use Rattle.dualoc_cli.specs.Command.{command_of, solve_command, short_of, long_of, duals_command, check_command, convert_command, unbudgeted, job_on, file_of, form_of, are_names};
 ghost use Rattle.dualoc_cli.specs.Step.{asked, asked_file, asked_job, asked_result};
 
 use crate::options::Options;
@@ -16,6 +16,8 @@ pub enum FileForm {
     Ufl,
     /// The p-median networks of the OR-Library.
     Pmed,
+    /// The suite's own form.
+    Own,
 }
 
 impl FileForm {
@@ -28,6 +30,7 @@ impl FileForm {
             "uncap" => Some(FileForm::Uncap),
             "ufl" => Some(FileForm::Ufl),
             "pmed" => Some(FileForm::Pmed),
+            "own" => Some(FileForm::Own),
             _ => None,
         }
     }
@@ -74,6 +77,8 @@ pub enum Job<'a> {
     ShowDuals,
     /// To check the certificate in the file of this name against it.
     Check(&'a str),
+    /// To write it to the file of this name in the suite's own form.
+    Convert(&'a str),
 }
 
 /// What the words of a command line ask for.
@@ -95,6 +100,7 @@ impl<'a> Command<'a> {
             "solve" => solve(words),
             "duals" => duals(words),
             "check" => check(words),
+            "convert" => convert(words),
             _ => None,
         }
     }
@@ -183,6 +189,22 @@ fn check(words: &[String]) -> Option<Command<'_>>
     }
     let options = Options::of(options)?;
     unbudgeted(form.as_str(), file, Job::Check(certificate), options)
+}
+
+// The words behind `convert`.
+#[tactic(auto, unfolding(crate::specs::Command::convert_command))]
+fn convert(words: &[String]) -> Option<Command<'_>>
+    ensures { option_map asked result ≡ convert_command (map string_bytes words.now) }
+{
+    let [form, file, new, options @ ..] = words else {
+        return None;
+    };
+    let (file, new) = (file.as_str(), new.as_str());
+    if !are_names(file, new) {
+        return None;
+    }
+    let options = Options::of(options)?;
+    unbudgeted(form.as_str(), file, Job::Convert(new), options)
 }
 
 // A job on a file that takes no budget.

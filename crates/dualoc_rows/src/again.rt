@@ -1,4 +1,6 @@
 //! Searches that begin with what a former one kept.
+ghost use Rattle.lane_order.specs.Order.{IsOrderOf};
+
 use example_instances::{ring, warehouses};
 use instance_store::{Instance, NoMemory};
 use lane_order::LaneOrder;
@@ -14,21 +16,37 @@ fn searched(
     kept: Option<&Kept>,
 ) -> Result<(u64, u32, Kept), NoMemory> {
     let order = LaneOrder::of(alloc, inst)?;
+    let strategy = SearchStrategy::of(alloc, inst, &order, kept)?;
+    searched_by(alloc, inst, &order, strategy)
+}
+
+// The same of a search by a strategy that is there.
+fn searched_by(
+    alloc: Global,
+    inst: &Instance,
+    order: &LaneOrder,
+    mut strategy: SearchStrategy<'_>,
+) -> Result<(u64, u32, Kept), NoMemory>
+    requires { IsOrderOf order.now inst.now }
+{
+    let (cost, nodes) = found(alloc, inst, order, &mut strategy)?;
+    let kept = strategy.kept()?;
+    Ok((cost, nodes, kept))
+}
+
+// The cost and the nodes of that search.
+fn found(
+    alloc: Global,
+    inst: &Instance,
+    order: &LaneOrder,
+    strategy: &mut SearchStrategy<'_>,
+) -> Result<(u64, u32), NoMemory>
+    requires { IsOrderOf order.now inst.now }
+{
     let tree = Tree::root(alloc, inst)?;
-    let mut strategy = SearchStrategy::of(alloc, inst, &order, kept)?;
     let budget = max_nodes(inst);
-    let answer = grow(
-        alloc,
-        inst,
-        &order,
-        &mut strategy,
-        tree,
-        &[false],
-        None,
-        budget,
-    )?;
-    let (cost, nodes) = optimum(answer);
-    Ok((cost, nodes, strategy.kept()?))
+    let answer = grow(alloc, inst, order, strategy, tree, &[false], None, budget)?;
+    Ok(optimum(answer))
 }
 
 fn optimum(answer: Answer) -> (u64, u32) {

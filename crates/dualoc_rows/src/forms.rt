@@ -88,7 +88,7 @@ const REFUSED: [(&[&str], Status, &str); 5] = [
 
 // Words that are no command.
 const NO_COMMANDS: [&[&str]; 21] = [
-    &["duals", "own", "a"],
+    &["duals", "own", "a", "capacity=1"],
     &["duals", "cap", "a", "capacity=1000000000"],
     &["solve", "uncap", "a", "p", "c", "budget=01"],
     &["check", "cap", "a", "c", "capacity=1", "capacity=1"],

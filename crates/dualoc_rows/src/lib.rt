@@ -7,6 +7,8 @@ mod again;
 #[cfg(test)]
 mod checks;
 #[cfg(test)]
+mod converts;
+#[cfg(test)]
 mod forms;
 #[cfg(test)]
 mod rows;

@@ -1,4 +1,4 @@
-use Rattle.std.proofs.Common.{◌≡◌, ◌∙◌, ap, refl, inl}
+use Rattle.std.proofs.Common.{◌≡◌, ◌∙◌, refl, inl}
 use Rattle.shelf_port.specs.Ports.{ShelfState, shelf_state}
 use Rattle.location_terms.specs.Certificate.{Certificate}
 use Rattle.report.specs.PlanText.{plan_text_of}

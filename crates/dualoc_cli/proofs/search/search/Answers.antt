@@ -1,4 +1,4 @@
-use Rattle.std.proofs.Common.{◌≡◌, ◌<◌, ℕ}
+use Rattle.std.proofs.Common.{◌≡◌, ◌<◌}
 use Rattle.std.proofs.lemmas.Option.{MatchOption-at_none}
 use Rattle.shelf_port.specs.Ports.{ShelfState, shelf_state}
 use Rattle.tree_search.specs.Budget.{max_budget, budget_in}
