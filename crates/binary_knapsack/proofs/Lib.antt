@@ -1,0 +1,11 @@
+pub mod Most
+pub mod Orders
+pub mod Choices
+pub mod Kept
+pub mod Sets
+pub mod Best
+pub mod Steps
+pub mod Limits
+pub mod Linked
+pub mod Merges
+pub mod Searches

@@ -1,0 +1,10 @@
+use Rattle.std.proofs.Common.{◌≡◌, ◌-◌, List, length, drop, max}
+use Rattle.binary_knapsack.specs.Loads.{Load, reach}
+use Rattle.binary_knapsack.specs.Bounds.{IsBound}
+use Rattle.binary_knapsack.proofs.merging.pass_on.Given as goal
+
+abbrev pub invariant-loop-i : goal.invariant-loop-i
+invariant-loop-i l = (rest : List Load) → IsBound l.limit rest → max l.limit.best (max (reach rest l.next.items) (reach rest (drop l.i l.choices))) ≡ max l.limit.best (max (reach rest l.fn.next.items) (reach rest (drop l.from l.choices)))
+
+abbrev pub decreases-loop-i : goal.decreases-loop-i
+decreases-loop-i l = length l.choices - l.i

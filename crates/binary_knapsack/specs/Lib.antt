@@ -1,0 +1,4 @@
+pub mod Knapsack
+pub mod Loads
+pub mod Bounds
+pub mod Site
