@@ -1,11 +1,11 @@
 """Compares the verdicts of a built program with those of a plain reading of docs/FORMATS.md: `certificates.py PROGRAM`.
 
-The reading stands in `verdicts.py`. Both are asked about a few certificates of the forms `ufl`, `cap` and `pmed`, with prices
-of capacities and of the number of sites, rays and splits on lanes: about all their proper prefixes, all deletions of one
-byte, and many random changes. Then about random trees over random small instances, whose splits may contradict each other and
-whose claims lie at the very cost at which a leaf closes and beside it; and about the certificates of searches, which have to
-have the yes of both, with their numbers changed by little. The program is asked besides about two files that are longer than
-any that is looked at. Files in which sites must be open or stay closed can't be read yet, so nothing is compared of them.
+The reading stands in `verdicts.py`. Both are asked about a few certificates of the forms `ufl`, `cap`, `pmed` and `own`, with
+prices of capacities and of the number of sites, rays, splits on lanes and sites that must be open or stay closed: about all
+their proper prefixes, all deletions of one byte, and many random changes. Then about random trees over random small
+instances, whose splits may contradict each other and whose claims lie at the very cost at which a leaf closes and beside it;
+and about the certificates of searches, which have to have the yes of both, with their numbers changed by little. The program
+is asked besides about two files that are longer than any that is looked at.
 """
 import random
 import re
@@ -15,6 +15,7 @@ from collections import Counter
 from capacities import Warehouses, some_network
 from common import MICRO, differs, main, money, texts
 from instances import Fault as FileFault
+from own import CLOSED, FREE, OPEN, random_own
 from solve import cover, file_of, scattered
 from verdicts import Box, Instance, verdict
 
@@ -35,16 +36,35 @@ PRICED = (HEAD.format(2, 2, "optimal 7504.750000") + "open 1 2\nserve 2 1\nsite 
           "site 1\nleaf 0 0\nv 6000000 6000000\nu 2 1\nlane 1 2\nleaf 1000 0\nv 1250000000 3000000000\nu 1 250 2 40\n"
           "leaf 1000 0\nv 1250000000 3000000000\nu\nend\n")
 COUNTED = HEAD.format(3, 3, "optimal 11.000000") + "open 2\nserve 2 2 2\nleaf 1 7500002\nv 7500001 3750001 7250000\nu\nend\n"
-FILES = [("ufl", PAIR, BEST), ("ufl", RING, SPLIT), ("ufl", RING, BOTH), ("cap", ROOMS, PRICED), ("pmed", NET, COUNTED)]
+OWN = """dualoc-instance 2
+sites 3 next 9
+customers 2 next 6
+count 0 3000
+customer 2 6
+customer 5 6
+site 3 7500 10 open 6739.725 3
+site 4 .5 10 free 1.25 4
+site 8 0 none closed 0 0
+end
+"""
+SETTLED = ("dualoc-certificate 2\nsites 3 customers 2\nmust-open 3\nmust-closed 8\nclaim optimal 7504.750000\nopen 3 4\nserve 4 3\n"
+           "site 4\nleaf 0 0\nv 6000000 6000000\nu 3 1\nlane 4 5\n"
+           "leaf 1000 0\nv 1250000000 3000000000\nu\nleaf 1000 0\nv 1754000000 4504000000\nu 4 84\nend\n")
+FILES = [("ufl", PAIR, BEST), ("ufl", RING, SPLIT), ("ufl", RING, BOTH), ("cap", ROOMS, PRICED), ("pmed", NET, COUNTED),
+         ("own", OWN, SETTLED)]
 CHANGES = [(b"22.000000", b"21.000000"), (b"serve 1 1 1", b"serve 1 1 2"), (b" 2000000", b" 02000000"),
            (b"u\n", b"u 1 5\n"), (b"end\n", b""), (b"end\n", b"end\nx\n"), (b"open 1", b"open 7"),
            (b"customers 3", b"customers 4"), (b"9000000", b"8000000"), (b"9000000", b"9" * 100),
            (b"open 1", b"open " + b"1" * 40 + b" " + b"2" * 40), (b"serve 2 1", b"serve 1 1"), (b"u 2 1", b"u 2 0"),
-           (b"u 2 1", b"u 2 " + b"9" * 18), (b"u 2 1", b"u 3 1"), (b"u 2 1", b"u 2 -1"), (b"open 2", b"open 1 2")]
+           (b"u 2 1", b"u 2 " + b"9" * 18), (b"u 2 1", b"u 3 1"), (b"u 2 1", b"u 2 -1"), (b"open 2", b"open 1 2"),
+           (b"must-open 3", b"must-open 4"), (b"must-open 3", b"must-open"), (b"must-open 3", b"must-open 3 8"),
+           (b"must-open 3", b"must-open 3 9"), (b"must-open 3", b"must-open 8 3"), (b"must-open", b"must-opened"),
+           (b"must-closed 8", b"must-closed 4294967296"), (b"-closed 8", b"-closed 08"), (b"open 3 4", b"open 4"),
+           (b"open 3 4", b"open 3 4 8"), (b"open 3 4", b"open 3 4 9"), (b"open 3 4\nserve 4 3", b"open 4\nserve 4 4")]
 PIECES = b" \t\r\n+-0123456789.xnoneu\0\xff"
 # What has to be among the verdicts, so that the check doesn't become empty.
 DUE = ["yes optimal", "yes infeasible", "yes bracket", "no LeafOpen", "no CostDiffers", "ServedByClosed", "NoLane",
-       "OverCapacity", "SiteCount", "no UnknownId", "no OutOfRange", "no NotCanonical"]
+       "OverCapacity", "SiteCount", "StatusBroken", "no UnknownId", "no OutOfRange", "no NotCanonical", "no WrongStatus"]
 
 
 class Verdicts:
@@ -72,17 +92,17 @@ class Verdicts:
 
 def some_duals(inst):
     """Duals of scale 1 and more around the costs, or small numbers of scale 0."""
-    capped = [site for site in range(1, inst.m + 1) if inst.capacities[site - 1] is not None]
+    capped = [site for site in inst.sites if inst.capacities[site] is not None]
     q = random.choice([0, 1, 1, 1000, 10**6, random.randrange(1, 3000)])
     if q == 0:
-        v = [random.choice([0, 1, demand, demand]) for demand in inst.demands]
+        v = [random.choice([0, 1, demand, demand]) for demand in inst.demands.values()]
         prices = {site: random.choice([0, 1, 1, 1, 2]) for site in capped}
         nu = random.choice([0, 0, 1, -1])
     else:
-        share = q * (sum(inst.fixed) // (inst.m * inst.n) + 1)
-        costs = [[cost for cost in column if cost is not None] or [0] for column in zip(*inst.lanes)]
+        share = q * (sum(inst.fixed.values()) // (inst.m * inst.n) + 1)
+        costs = [[inst.lanes[s][c] for s in inst.sites if inst.lanes[s][c] is not None] or [0] for c in inst.customers]
         v = [q * random.choice(column) + random.choice([0, 0, share, random.randrange(-share, 2 * share)]) for column in costs]
-        most = lambda site: q * inst.fixed[site - 1] // max(1, inst.capacities[site - 1]) + q // 4 + 2
+        most = lambda site: q * inst.fixed[site] // max(1, inst.capacities[site]) + q // 4 + 2
         prices = {site: random.choice([0, random.randrange(most(site))]) for site in capped}
         nu = random.choice([0, 0, 0, share, -share, random.randrange(-share, share)])
     return q, nu, v, {site: price for site, price in prices.items() if price}
@@ -95,7 +115,7 @@ def some_tree(inst, path, depth, leaves):
         leaves.append((path, duals))
         prices = "".join(f" {site} {price}" for site, price in u.items())
         return f"leaf {q} {nu}\nv {' '.join(map(str, v))}\nu{prices}\n"
-    site, customer = random.randint(1, inst.m), random.randint(1, inst.n)
+    site, customer = random.choice(inst.sites), random.choice(inst.customers)
     if random.random() < 0.5:
         line, steps = f"site {site}\n", [("closed", site), ("opened", site)]
     else:
@@ -106,10 +126,20 @@ def some_tree(inst, path, depth, leaves):
 def some_plan(inst):
     """A random plan, mostly over lanes that are there, with what it costs."""
     some = random.randint(1, inst.m) if random.random() < 0.3 else max(1, min(inst.most, inst.m))
-    opened = sorted(random.sample(range(1, inst.m + 1), some))
-    serve = [random.choice(opened if random.random() < 0.98 else range(1, inst.m + 1)) for _ in range(inst.n)]
-    lanes = [inst.lanes[site - 1][j] or 0 for j, site in enumerate(serve)]
-    return opened, serve, sum(inst.fixed[site - 1] for site in opened) + sum(lanes)
+    opened = sorted(random.sample(inst.sites, some))
+    serve = [random.choice(opened if random.random() < 0.98 else inst.sites) for _ in range(inst.n)]
+    lanes = [inst.lanes[s][c] or 0 for c, s in zip(inst.customers, serve)]
+    return opened, serve, sum(inst.fixed[s] for s in opened) + sum(lanes)
+
+
+def head_of(inst, claim):
+    """The lines up to the claim, with those of statuses where not all sites are free."""
+    head = HEAD.format(inst.m, inst.n, claim)
+    if inst.of_status(FREE) == [*inst.sites]:
+        return head
+    kinds = ("must-open", OPEN), ("must-closed", CLOSED)
+    lines = "".join(" ".join([word, *map(str, inst.of_status(status))]) + "\n" for word, status in kinds)
+    return head.replace("certificate 1", "certificate 2").replace("claim", lines + "claim")
 
 
 def some_certificate(inst, traits):
@@ -123,17 +153,20 @@ def some_certificate(inst, traits):
     traits["rays"] += any(q == 0 and bound >= 1 for bound, q in bounds)
     traits["lanes"] += "lane" in tree
     traits["counts"] += any(duals[1] for _, duals in leaves)
+    traits["statuses"] += inst.of_status(FREE) != [*inst.sites]
     opened, serve, cost = some_plan(inst)
     plan = f"open {' '.join(map(str, opened))}\nserve {' '.join(map(str, serve))}\n"
     kind = random.choice(["none", "none", "high", "optimal", "infeasible"] if ends else ["infeasible", "none"])
     claim, plan = {"none": (f"bracket {money(low)} none", ""), "high": (f"bracket {money(low)} {money(cost)}", plan),
                    "optimal": (f"optimal {money(random.choice([cost, cost, low]))}", plan), "infeasible": ("infeasible", "")}[kind]
-    return (HEAD.format(inst.m, inst.n, claim) + plan + tree + "end\n").encode()
+    return (head_of(inst, claim) + plan + tree + "end\n").encode()
 
 
 def some_file():
     """A random small instance: its form, its text, and what the word `capacity` stands for in it."""
-    kind = random.choice(["cap", "cap", "pmed", "ufl", "uncap"])
+    kind = random.choice(["cap", "cap", "pmed", "ufl", "uncap", "own", "own"])
+    if kind == "own":
+        return kind, random_own().text(), None
     if kind in ("cap", "uncap"):
         task = Warehouses()
         return kind, task.text(), task.option if kind == "cap" else None
@@ -190,7 +223,7 @@ def check(program):
         program.write("k", front)
         with open(program.at("k"), "r+b") as file:
             file.truncate(MAX_BYTES + 1)
-        program.expect(due, status, front, "check", "pmed", "a", "k")
+        program.expect(due, status, front, "check", verdicts.form, "a", "k")
     for _ in range(RANDOM):
         take_some(verdicts)
         verdicts.compare(some_certificate(verdicts.inst, verdicts.traits))
@@ -198,7 +231,7 @@ def check(program):
         take_some(verdicts)
         searched(verdicts, program)
     missing = [it for it in [*DUE, *verdicts.traits] if not (verdicts.found + verdicts.traits)[it]]
-    if missing or len(verdicts.traits) < 4:
+    if missing or len(verdicts.traits) < 5:
         sys.exit(f"check: no verdict among {program.asked} has {missing}")
     told = ", ".join(f"{count} with {name}" for name, count in verdicts.traits.items())
     return f"certificates: {program.asked - SEARCHES} verdicts agree, {SEARCHES} of them on searches; of {RANDOM} random trees {told}"

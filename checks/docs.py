@@ -14,11 +14,11 @@ from crates import ROOT, below, code, definitions, lemmas, listed, pages
 
 CRATES = listed()
 # What a yes rests on: the checker, what reads an instance, and what prints the yes.
-CHECKER, READERS, PRINTS = "certificate_check", ("ufllib_read", "orlib_read", "pmed_paths"), ("dualoc_cli", "dualoc")
+CHECKER, READERS, PRINTS = "certificate_check", ("ufllib_read", "orlib_read", "pmed_paths", "instance_text"), ("dualoc_cli", "dualoc")
 # Crates that are in no drawing: tests, and what they alone call.
 TESTS = {it for it in CRATES if it.endswith("_rows")} | {"example_instances"}
 # Words that stand in the place of names: the prover's, the forms', placeholders and the kit's crates.
-OTHER = {"List", "m", "n", "main", "duals", "cap", "uncap", "ufl", "pmed", "capacity", "check",
+OTHER = {"List", "m", "n", "main", "duals", "cap", "uncap", "ufl", "pmed", "own", "capacity", "check",
          "indexmap", "itoa", "thiserror", "rand_core", "rand_xoshiro"}
 RULE = re.compile(r"\|[-| ]+\|\Z")
 QUOTED = re.compile(r"`([^`\n]+)`")

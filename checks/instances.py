@@ -57,17 +57,20 @@ class Reader:
     def fault(self, kind, place):
         raise Fault(f"bad input {kind} line {place[0]} word {place[1]}\n")
 
-    def amount(self, refused=lambda value: None):
-        """The next word's amount, which isn't refused by a kind of fault."""
+    def take(self, meaning, refused=lambda value: None):
+        """What the next word means, which is a value and a kind of fault, or none of one, and isn't refused by such a kind."""
         if self.next == len(self.words):
             self.fault("Ended", self.end)
         *place, word = self.words[self.next]
-        value, kind = amount_of(word)
+        value, kind = meaning(word)
         kind = kind or refused(value)
         if kind:
             self.fault(kind, place)
         self.next += 1
         return value
+
+    def amount(self, refused=lambda value: None):
+        return self.take(amount_of, refused)
 
     def size(self, most, kind):
         return self.amount(lambda it: None if it % MICRO == 0 and 1 <= it // MICRO <= most else kind) // MICRO

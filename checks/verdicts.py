@@ -1,10 +1,11 @@
 """A plain reading of what docs/FORMATS.md says of certificates: the verdict on a text. It goes over the whole list of a
-certificate's lines, and adds up every bound anew. No site has to be open or has to stay closed in the forms so far."""
+certificate's lines, and adds up every bound anew."""
 import re
 
 from common import money
 from instances import read as read_ufl
 from networks import read as read_network
+from own import CLOSED, FREE, OPEN, read as read_own
 from warehouses import Warehouses
 
 MAX_COST, MAX_ID, MAX_SCALE, MAX_VALUE, MAX_PRICE = 8 * 10**18, 2**32 - 1, 10**6, 10**24, 10**18
@@ -18,13 +19,21 @@ class Fault(Exception):
 
 
 class Instance:
-    """Costs, capacities and demands in millionths, by place; `None` where there is no capacity, or no lane."""
+    """Costs, capacities, demands and statuses by the ids of sites and customers, all amounts in millionths; `None` where there
+    is no capacity, or no lane. Ids are 1, 2, 3 and so on where none are given."""
 
-    def __init__(self, fixed, lanes, capacities=None, demands=None, least=0, most=MOST_SITES):
-        self.fixed, self.lanes, self.least, self.most = fixed, lanes, least, most
-        self.m, self.n = len(fixed), len(lanes[0])
-        self.capacities = capacities or [None] * self.m
-        self.demands = demands or [0] * self.n
+    def __init__(self, fixed, lanes, capacities=None, demands=None, least=0, most=MOST_SITES, statuses=None, sites=None, customers=None):
+        self.least, self.most, self.m, self.n = least, most, len(fixed), len(lanes[0])
+        self.sites = sites or range(1, self.m + 1)
+        self.customers = customers or range(1, self.n + 1)
+        self.fixed = dict(zip(self.sites, fixed))
+        self.lanes = {site: dict(zip(self.customers, row)) for site, row in zip(self.sites, lanes)}
+        self.capacities = dict(zip(self.sites, capacities or [None] * self.m))
+        self.demands = dict(zip(self.customers, demands or [0] * self.n))
+        self.statuses = dict(zip(self.sites, statuses or [FREE] * self.m))
+
+    def of_status(self, status):
+        return [site for site in self.sites if self.statuses[site] == status]
 
     @staticmethod
     def of(form, text, given=None):
@@ -35,38 +44,42 @@ class Instance:
             n, p, costs = read_network(text)
             vertices = range(1, n + 1)
             return Instance([0] * n, [[costs.get((a, b)) for b in vertices] for a in vertices], least=p, most=p)
+        if form == "own":
+            found = read_own(text)
+            sites, fixed, capacities, statuses = map(list, zip(*found.sites))
+            customers, demands = map(list, zip(*found.customers))
+            return Instance(fixed, [found.row(site) for site in sites], capacities, demands, *found.count, statuses, sites, customers)
         found = Warehouses(text, form, given)
         return Instance(found.fixed, found.lanes, found.capacities if form == "cap" else None, found.demands)
 
 
 class Box:
-    """What the splits above a leaf settle, as pairs of a word and the ids behind it."""
+    """What statuses and the splits above a leaf settle, these as pairs of a word and the ids behind it."""
 
     def __init__(self, inst, path):
         self.inst, self.path = inst, path
-        self.called = {step[1] for step in path if step[0] in ("opened", "yes")}
-        self.closed = {step[1] for step in path if step[0] == "closed"}
+        self.called = {step[1] for step in path if step[0] in ("opened", "yes")} | {*inst.of_status(OPEN)}
+        self.closed = {step[1] for step in path if step[0] == "closed"} | {*inst.of_status(CLOSED)}
 
     def allows(self, site, customer):
-        capacity = self.inst.capacities[site - 1]
-        fits = capacity is None or self.inst.demands[customer - 1] <= capacity
+        capacity = self.inst.capacities[site]
+        fits = capacity is None or self.inst.demands[customer] <= capacity
         barred = ("no", site, customer) in self.path or any(
             step[0] == "yes" and step[2] == customer and step[1] != site for step in self.path)
-        has_lane = self.inst.lanes[site - 1][customer - 1] is not None
+        has_lane = self.inst.lanes[site][customer] is not None
         return has_lane and fits and not barred and site not in self.closed and not self.called & self.closed
 
     def slack(self, site, q, nu, v, u):
         inst, price = self.inst, u.get(site, 0)
-        slack = q * inst.fixed[site - 1] + nu - price * (inst.capacities[site - 1] or 0)
-        for customer in range(1, inst.n + 1):
+        slack = q * inst.fixed[site] + nu - price * (inst.capacities[site] or 0)
+        for customer, value in zip(inst.customers, v):
             if self.allows(site, customer):
-                level = q * inst.lanes[site - 1][customer - 1] + price * inst.demands[customer - 1]
-                slack -= max(0, v[customer - 1] - level)
+                slack -= max(0, value - q * inst.lanes[site][customer] - price * inst.demands[customer])
         return slack
 
     def bound(self, q, nu, v, u):
         total = sum(v) - nu * (self.inst.most if nu >= 0 else self.inst.least)
-        for site in range(1, self.inst.m + 1):
+        for site in self.inst.sites:
             if site not in self.closed:
                 slack = self.slack(site, q, nu, v, u)
                 total += slack if site in self.called else min(0, slack)
@@ -104,10 +117,11 @@ class Reader:
             self.fault("NotCanonical")
         return values
 
-    def ids(self, values, most):
+    def ids(self, values, *known):
+        """Ids, which have to be in the instance: all of sites, or each of another kind."""
         if any(not 0 <= value <= MAX_ID for value in values):
             self.fault("OutOfRange")
-        if any(not 1 <= value <= last for value, last in zip(values, most)):
+        if any(value not in ids for value, ids in zip(values, known * len(values) if len(known) == 1 else known)):
             self.fault("UnknownId")
 
     def fixed(self, words, due):
@@ -135,12 +149,15 @@ def refused(inst, opened, serve):
     """The name of the first part of a feasible plan that fails; nothing where none does."""
     if any(site not in opened for site in serve):
         return "ServedByClosed"
-    if any(inst.lanes[site - 1][j] is None for j, site in enumerate(serve)):
+    if any(inst.lanes[site][customer] is None for customer, site in zip(inst.customers, serve)):
         return "NoLane"
-    load = {site: sum(demand for demand, it in zip(inst.demands, serve) if it == site) for site in opened}
-    if any(inst.capacities[site - 1] is not None and load[site] > inst.capacities[site - 1] for site in opened):
+    load = {site: sum(demand for demand, it in zip(inst.demands.values(), serve) if it == site) for site in opened}
+    if any(inst.capacities[site] is not None and load[site] > inst.capacities[site] for site in opened):
         return "OverCapacity"
-    return None if inst.least <= len(opened) <= inst.most else "SiteCount"
+    if not inst.least <= len(opened) <= inst.most:
+        return "SiteCount"
+    is_broken = {*inst.of_status(OPEN)} - {*opened} or {*inst.of_status(CLOSED)} & {*opened}
+    return "StatusBroken" if is_broken else None
 
 
 def judge_plan(reader, inst, cost):
@@ -148,16 +165,16 @@ def judge_plan(reader, inst, cost):
     if words[:1] != [b"open"]:
         reader.fault("BadLine")
     opened = reader.numbers(words, words[1:], rising=True)
-    reader.ids(opened, [inst.m] * len(opened))
+    reader.ids(opened, inst.sites)
     words = reader.next()
     if words[:1] != [b"serve"] or len(words) != 1 + inst.n:
         reader.fault("BadLine")
     serve = reader.numbers(words, words[1:])
-    reader.ids(serve, [inst.m] * inst.n)
+    reader.ids(serve, inst.sites)
     name = refused(inst, opened, serve)
     if name:
         raise Fault(f"no PlanRefused line {reader.number} {name}")
-    found = sum(inst.fixed[s - 1] for s in opened) + sum(inst.lanes[s - 1][j] for j, s in enumerate(serve))
+    found = sum(inst.fixed[s] for s in opened) + sum(inst.lanes[s][c] for c, s in zip(inst.customers, serve))
     if found != cost:
         raise Fault(f"no CostDiffers line {reader.number} found {money(found)}")
 
@@ -180,10 +197,10 @@ def read_duals(reader, inst, words):
     sites, prices = pairs[::2], pairs[1::2]
     if any(a >= b for a, b in zip(sites, sites[1:])) or 0 in prices:
         reader.fault("NotCanonical")
-    unpriced = any(1 <= site <= inst.m and inst.capacities[site - 1] is None for site in sites)
+    unpriced = any(site in inst.capacities and inst.capacities[site] is None for site in sites)
     if unpriced or any(not 0 <= price <= MAX_PRICE for price in prices):
         reader.fault("OutOfRange")
-    reader.ids(sites, [inst.m] * len(sites))
+    reader.ids(sites, inst.sites)
     return q, nu, v, dict(zip(sites, prices))
 
 
@@ -202,11 +219,11 @@ def judge_tree(reader, inst, target):
         words = reader.next()
         if len(words) == 2 and words[0] == b"site":
             (site,) = reader.numbers(words, words[1:])
-            reader.ids([site], [inst.m])
+            reader.ids([site], inst.sites)
             due += [path + (("opened", site),), path + (("closed", site),)]
         elif len(words) == 3 and words[0] == b"lane":
             site, customer = reader.numbers(words, words[1:])
-            reader.ids([site, customer], [inst.m, inst.n])
+            reader.ids([site, customer], inst.sites, inst.customers)
             due += [path + (("yes", site, customer),), path + (("no", site, customer),)]
         elif len(words) == 3 and words[0] == b"leaf":
             judge_leaf(reader, inst, path, words, target)
@@ -214,11 +231,22 @@ def judge_tree(reader, inst, target):
             reader.fault("BadLine")
 
 
+def judge_statuses(reader, inst, word, status):
+    words = reader.next()
+    if words[:1] != [word]:
+        reader.fault("BadLine")
+    ids = reader.numbers(words, words[1:], rising=True)
+    reader.ids(ids, inst.sites)
+    if ids != inst.of_status(status):
+        reader.fault("WrongStatus")
+
+
 def verdict(inst, text):
     """The line that the checker prints of a certificate's text."""
     reader = Reader(text)
+    is_settled = inst.of_status(FREE) != [*inst.sites]
     try:
-        reader.fixed(reader.next(), [b"dualoc-certificate", b"1"])
+        reader.fixed(reader.next(), [b"dualoc-certificate", b"2" if is_settled else b"1"])
         words = reader.next()
         if len(words) != 4 or words[::2] != [b"sites", b"customers"]:
             reader.fault("BadLine")
@@ -227,6 +255,9 @@ def verdict(inst, text):
             reader.fault("OutOfRange")
         if (m, n) != (inst.m, inst.n):
             reader.fault("WrongSizes")
+        if is_settled:
+            judge_statuses(reader, inst, b"must-open", OPEN)
+            judge_statuses(reader, inst, b"must-closed", CLOSED)
         kind, costs = read_claim(reader)
         if kind == "optimal" or len(costs) == 2:
             judge_plan(reader, inst, costs[-1])
