@@ -59,7 +59,7 @@ module _ (I : Instance) (path : Path) where
   pub tried_again : (p q r : Present) → IsTried I path p q → IsTried I path q r → IsTried I path p r
   tried_again p q r one two =
       record {
-        same_prices = record { scale = two.same_prices.scale ∙ one.same_prices.scale; count_price = two.same_prices.count_price ∙ one.same_prices.count_price; prices = two.same_prices.prices ∙ one.same_prices.prices };
+        same_prices = record { form = two.same_prices.form ∙ one.same_prices.form; scale = two.same_prices.scale ∙ one.same_prices.scale; count_price = two.same_prices.count_price ∙ one.same_prices.count_price; prices = two.same_prices.prices ∙ one.same_prices.prices };
         risen = two.risen;
       }
 
@@ -69,7 +69,7 @@ module _ (I : Instance) (path : Path) where
   adjusted_from rounds start a p asc keeps prices risen no_lower gains =
       let first = keeps.bound in
       record {
-        same_prices = record { scale = prices.scale ∙ keeps.scale; count_price = prices.count_price ∙ keeps.count_price; prices = prices.prices ∙ keeps.prices };
+        same_prices = record { form = prices.form ∙ keeps.form; scale = prices.scale ∙ keeps.scale; count_price = prices.count_price ∙ keeps.count_price; prices = prices.prices ∙ keeps.prices };
         tame = risen.tame;
         ascended = risen.ascended;
         blocked = risen.blocked;
@@ -107,7 +107,7 @@ module _ (I : Instance) (path : Path) (old p : Present) (same : p ≡ old) (rise
       pub tried_from : HasAscended I path new → IsTried I path old new
       tried_from ascended =
           let stays = candidate_keeps I path p.duals j valid has_ascended.tame within new.duals candidate in
-          subst (λ (q : Present). IsTried I path q new) same (record { same_prices = record { scale = stays.0; count_price = stays.1; prices = stays.2 }; risen = ascended })
+          subst (λ (q : Present). IsTried I path q new) same (record { same_prices = record { form = stays.0; scale = stays.1; count_price = stays.2; prices = stays.3 }; risen = ascended })
 
       -- by the test of the code, which has the bound of the present duals
       module _ (bound : ℤ) (size : to_z w128 (of_z w128 bound) ≡ bound) (bound_is : bound ≡ bound_of I path old.duals) where

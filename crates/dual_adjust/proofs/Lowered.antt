@@ -114,12 +114,12 @@ module _ (I : Instance) (path : Path) (d : Duals) (j : ℕ) where
         let second = ascended_exists I path valid first.0 kept.tame in
         (second.0, (first.0, first.1, second.1))
 
-    -- it has the scale and the prices of the duals, is tame, and its customers are blocked
-    pub candidate_keeps : (e : Duals) → IsCandidate I path d j e → (e.q ≡ d.q) × (e.nu ≡ d.nu) × (e.u ≡ d.u) × AreTame I e × IsBlocked I path e
+    -- it has the form, the scale and the prices of the duals, is tame, and its customers are blocked
+    pub candidate_keeps : (e : Duals) → IsCandidate I path d j e → (e.form ≡ d.form) × (e.q ≡ d.q) × (e.nu ≡ d.nu) × (e.u ≡ d.u) × AreTame I e × IsBlocked I path e
     candidate_keeps e is_candidate =
         let one : Keeps I path (lowered I path d j) is_candidate.0 = apart_keeps I path valid (lowered I path d j) lowered_is_tame j is_candidate.0 is_candidate.1 in
         let two : Keeps I path is_candidate.0 e = ascended_keeps I path valid is_candidate.0 one.tame e is_candidate.2 in
-        (two.scale ∙ one.scale, two.count_price ∙ one.count_price, two.prices ∙ one.prices, two.tame, ascended_is_blocked I path valid is_candidate.0 one.tame e is_candidate.2)
+        (two.form ∙ one.form, two.scale ∙ one.scale, two.count_price ∙ one.count_price, two.prices ∙ one.prices, two.tame, ascended_is_blocked I path valid is_candidate.0 one.tame e is_candidate.2)
 
   -- there is one candidate
   pub one_candidate : (a b : Duals) → IsCandidate I path d j a → IsCandidate I path d j b → a ≡ b

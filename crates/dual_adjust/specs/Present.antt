@@ -25,8 +25,9 @@ pub record HasAscended (I : Instance) (path : Path) (p : Present) : Type 0 where
   pub slacks : AreSlacks I path p.duals p.work.slacks
   pub work : IsWorkFor I p.work
 
--- the scale, the price on the number of sites and the prices of capacities are the same
+-- the form, the scale, the price on the number of sites and the prices of capacities are the same
 pub record HaveSamePrices (d e : Duals) : Type 0 where
+  pub form : e.form ≡ d.form
   pub scale : e.q ≡ d.q
   pub count_price : e.nu ≡ d.nu
   pub prices : e.u ≡ d.u

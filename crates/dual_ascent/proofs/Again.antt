@@ -36,7 +36,7 @@ module _ (I : Instance) (path : Path) where
   pub seated_stays : (d e : Duals) (j : ℕ) → IsRisen I path d e → IsSeated d j → IsSeated e j
   seated_stays d e j up seat =
       let above : MatchOption (least_level I path d j) ⊤ (λ l. l ≤ℤ v_at e j) = still_at_least (least_level I path d j) (v_at d j) (v_at e j) (up.above j) seat in
-      subst (λ f. MatchOption (least_level I path f j) ⊤ (λ l. l ≤ℤ v_at e j)) (same_prices d e up.scale up.count_price up.prices) above
+      subst (λ f. MatchOption (least_level I path f j) ⊤ (λ l. l ≤ℤ v_at e j)) (same_prices d e up.form up.scale up.count_price up.prices) above
 
   step_seats : (d : Duals) (j : ℕ) → j < length d.v → IsSeated (seated I path d j) j
   step_seats d j here = seat_at_least (least_level I path d j) (v_at d j) (v_at (seated I path d j) j) (get_or-set_same d.v j (int_max (v_at d j) (unwrap_or (least_level I path d j) (v_at d j))) (pos 0) here)

@@ -8,6 +8,7 @@ use Rattle.std.proofs.lemmas.Bool.{cases_Bool, cases_eq, eqb-false, false≢true
 use Rattle.std.proofs.lemmas.List.Elements.{All-map, All-get_or, All-filter, All-from_get_or, filter_passes}
 use Rattle.std.proofs.lemmas.List.FromFn.{get_or-range_with_len, length-range_with_len}
 use Rattle.std.proofs.lemmas.List.{get_or-set_same, get_or-set_other}
+use Rattle.location_terms.specs.declared.form.LeafForm.{LeafForm}
 use Rattle.location_terms.specs.Instance.{Instance, site_at, customer_at}
 use Rattle.location_terms.specs.Box.{Path, is_allowed}
 use Rattle.location_terms.specs.Bound.{Duals, v_at, level_at, paid_at, slack_of}
@@ -28,12 +29,13 @@ paid_allowed true v level e = omega (arith, ints, clamps)
 paid_allowed false v level e = absurd (false≢true e)
 
 -- the duals of these prices
-pub same_prices : (d e : Duals) → e.q ≡ d.q → e.nu ≡ d.nu → e.u ≡ d.u → (let f : Duals = record d { v = e.v } in f) ≡ e
-same_prices d e q nu u =
-    let by_q : ℕ → Duals = λ x. record { q = x; nu = d.nu; v = e.v; u = d.u } in
-    let by_nu : ℤ → Duals = λ x. record { q = e.q; nu = x; v = e.v; u = d.u } in
-    let by_u : List ℕ → Duals = λ x. record { q = e.q; nu = e.nu; v = e.v; u = x } in
-    ap by_q (sym q) ∙ ap by_nu (sym nu) ∙ ap by_u (sym u)
+pub same_prices : (d e : Duals) → e.form ≡ d.form → e.q ≡ d.q → e.nu ≡ d.nu → e.u ≡ d.u → (let f : Duals = record d { v = e.v } in f) ≡ e
+same_prices d e form q nu u =
+    let by_form : LeafForm → Duals = λ x. record { form = x; q = d.q; nu = d.nu; v = e.v; u = d.u } in
+    let by_q : ℕ → Duals = λ x. record { form = e.form; q = x; nu = d.nu; v = e.v; u = d.u } in
+    let by_nu : ℤ → Duals = λ x. record { form = e.form; q = e.q; nu = x; v = e.v; u = d.u } in
+    let by_u : List ℕ → Duals = λ x. record { form = e.form; q = e.q; nu = e.nu; v = e.v; u = x } in
+    ap by_form (sym form) ∙ ap by_q (sym q) ∙ ap by_nu (sym nu) ∙ ap by_u (sym u)
 
 -- places are below their number
 pub places_below : (n : ℕ) → All (λ i. i < n) (range_with_len 0 n)
@@ -48,7 +50,7 @@ module _ (I : Instance) (path : Path) (limit : ℤ) where
   IsUnder d = (k : ℕ) → k < length I.customers → v_at d k ≤ℤ limit
 
   pub room_stays : (d e : Duals) → IsRisen I path d e → HasRoom d → HasRoom e
-  room_stays d e up room = subst HasRoom (same_prices d e up.scale up.count_price up.prices) room
+  room_stays d e up room = subst HasRoom (same_prices d e up.form up.scale up.count_price up.prices) room
 
   module _ (d : Duals) (room : HasRoom d) (under : IsUnder d) (j : ℕ) (known : j < length I.customers) (here : j < length d.v) where
     -- a site's slack with what the customer pays is within the site's cost

@@ -1,4 +1,4 @@
--- What one customer's step of the ascent keeps: seated or raised, the scale and the prices stay, no dual is lower, no slack
+-- What one customer's step of the ascent keeps: seated or raised, the form, the scale and the prices stay, no dual is lower, no slack
 -- falls below 0, and the bound rises by what the duals rise.
 use Rattle.std.proofs.Common.{◌≡◌, ℕ, ◌<◌, refl, sym, ap, subst, ◌∙◌, inl, inr, arith, Bool, true, false, length, Option, Some, None, unwrap_or, ℤ, pos, ◌+ℤ◌, ◌-ℤ◌, ◌≤ℤ◌, ◌<ℤ◌}
 use Rattle.std.specs.Prelude.{MatchOption, int_lt, if◌then◌else◌}
@@ -18,6 +18,7 @@ use Rattle.dual_ascent.proofs.Rise.{least_within, rise, rise_positive, rise_leav
 
 -- what the ascent keeps from one set of duals to the next
 pub record IsRisen (I : Instance) (path : Path) (d e : Duals) : Type 0 where
+  pub form : e.form ≡ d.form
   pub scale : e.q ≡ d.q
   pub count_price : e.nu ≡ d.nu
   pub prices : e.u ≡ d.u
@@ -29,6 +30,7 @@ pub record IsRisen (I : Instance) (path : Path) (d e : Duals) : Type 0 where
 pub same_is_risen : (I : Instance) (path : Path) (d : Duals) → IsRisen I path d d
 same_is_risen I path d =
     record {
+      form = refl;
       scale = refl;
       count_price = refl;
       prices = refl;
@@ -41,6 +43,7 @@ same_is_risen I path d =
 pub risen_again : (I : Instance) (path : Path) (d e f : Duals) → IsRisen I path d e → IsRisen I path e f → IsRisen I path d f
 risen_again I path d e f one two =
     record {
+      form = two.form ∙ one.form;
       scale = two.scale ∙ one.scale;
       count_price = two.count_price ∙ one.count_price;
       prices = two.prices ∙ one.prices;
@@ -62,6 +65,7 @@ module _ (I : Instance) (path : Path) (d : Duals) (j : ℕ) (known : j < length 
   step_is_risen : (r : ℤ) → pos 0 ≤ℤ r → ((i : ℕ) → i < length I.sites → Leaves I path d j r i) → IsRisen I path d (risen I path d j r)
   step_is_risen r low leaves =
       record {
+        form = refl;
         scale = refl;
         count_price = refl;
         prices = refl;

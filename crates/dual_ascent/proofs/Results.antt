@@ -44,7 +44,7 @@ module _ (I : Instance) (path : Path) where
     keeps_over : (customers : List ℕ) → AreKnown I path customers → (result : Duals) → IsAscendedOver I path customers start result → Keeps I path start result
     keeps_over customers known result asc =
         let up : IsRisen I path start result = ascended_is_risen I path customers known start result tame.fit.of_instance.customers asc in
-        record { scale = up.scale; count_price = up.count_price; prices = up.prices; tame = tame_stays I path valid start tame customers known result asc; no_lower = up.above; bound = bound_is_risen I path start result up; slacks = up.slacks; unserved = λ k none. ascent_spares I path k customers (λ i d b. unserved_spared k none (get_or customers i d)) start result asc }
+        record { form = up.form; scale = up.scale; count_price = up.count_price; prices = up.prices; tame = tame_stays I path valid start tame customers known result asc; no_lower = up.above; bound = bound_is_risen I path start result up; slacks = up.slacks; unserved = λ k none. ascent_spares I path k customers (λ i d b. unserved_spared k none (get_or customers i d)) start result asc }
 
     -- there is a result, it keeps all that, and every customer is blocked
     pub ascended_exists : (result : Duals) × IsAscended I path start result

@@ -6,8 +6,9 @@ use Rattle.location_terms.specs.Bound.{Duals, v_at, slack_of, bound_of}
 use Rattle.location_terms.specs.Fit.{AreTame}
 use Rattle.dual_ascent.specs.Levels.{servers}
 
--- the scale and the prices stay, the duals stay tame, no dual and no bound is lower, no slack falls below 0, and the dual of a customer without an allowed lane stays
+-- the form, the scale and the prices stay, the duals stay tame, no dual and no bound is lower, no slack falls below 0, and the dual of a customer without an allowed lane stays
 pub record Keeps (I : Instance) (path : Path) (start result : Duals) : Type 0 where
+  pub form : result.form ≡ start.form
   pub scale : result.q ≡ start.q
   pub count_price : result.nu ≡ start.nu
   pub prices : result.u ≡ start.u

@@ -218,7 +218,8 @@ pub(crate) fn times(factor: u64, amount: u64) -> i128
     i128::from(factor) * i128::from(amount)
 }
 
-pub(crate) fn value_total<D: DualsByPlace>(inst: &Instance, duals: &D) -> i128
+/// What the duals of all customers come to.
+pub fn value_total<D: DualsByPlace>(inst: &Instance, duals: &D) -> i128
     requires fit { DualsFit inst.now (D.numbers duals.now) }
     requires valid { IsValid inst.now }
     ensures exact { result ≡ total (v_at (D.numbers duals.now)) (length inst.now.customers) }
@@ -231,7 +232,9 @@ pub(crate) fn value_total<D: DualsByPlace>(inst: &Instance, duals: &D) -> i128
     sum
 }
 
-pub(crate) fn count_price(inst: &Instance, nu: i128) -> i128
+/// What the price `nu` on the number of open sites comes to: paid for the greatest number, or for the
+/// least where it is below 0.
+pub fn count_price(inst: &Instance, nu: i128) -> i128
     requires valid { IsValid inst.now }
     requires nu { unsigned_abs nu ≤ MAX_VALUE }
     ensures exact { result ≡ count_price inst.now nu }

@@ -1,16 +1,19 @@
 //! The duals of a box, by place of the instance.
-ghost use Rattle.std.specs.Prelude.{◌≡◌, ◌<◌, length, IfOk, slice_set};
+ghost use Rattle.std.specs.Prelude.{◌≡◌, ◌<◌, length, replicate, IfOk, slice_set};
 ghost use Rattle.location_terms.specs.Bound.{v_at, u_at};
+ghost use Rattle.location_terms.specs.declared.form.LeafForm.TheVariants.{Prices as ByPrices, Whole};
 ghost use Rattle.dual_value.specs.Zeros.{zeros};
 
 use instance_store::{Instance, NoMemory};
+use location_terms::LeafForm;
 use std::alloc::Global;
 use std::marker::Model;
 
 /// A scale, a price on the number of open sites, a dual for each customer and a price for each
-/// site's capacity, in the order of the instance.
+/// site's capacity, in the order of the instance, and the form in which a leaf takes them.
 #[derive(Debug, Drop)]
 pub struct Duals {
+    form: LeafForm,
     q: u32,
     nu: i128,
     v: Vec<i128>,
@@ -22,15 +25,16 @@ impl Model for Duals {
 
     ghost Value = { Prices };
 
-    ghost view = { λ a. record { q = a.q; nu = a.nu; v = a.v.items; u = a.u.items } };
+    ghost view = { λ a. record { form = a.form; q = a.q; nu = a.nu; v = a.v.items; u = a.u.items } };
 }
 
 impl Duals {
-    /// Duals that are 0 for the whole instance, at this scale. It fails only where memory runs out.
+    /// Duals that are 0 for the whole instance, at this scale and by prices. It fails only where memory runs out.
     pub fn zeros(alloc: Global, inst: &Instance, q: u32) -> Result<Duals, NoMemory>
         ensures { IfOk result (λ d. d ≡ zeros inst.now q) }
     {
         Ok(Duals {
+            form: LeafForm::Prices,
             q,
             nu: 0,
             v: vec![in alloc; 0; inst.custs()]?,
@@ -38,11 +42,37 @@ impl Duals {
         })
     }
 
-    /// The duals of these numbers.
+    /// The duals of these numbers, by prices.
     pub fn from_lists(q: u32, nu: i128, v: Vec<i128>, u: Vec<u64>) -> Duals
-        ensures { result ≡ record { q = q; nu = nu; v = v.items; u = u.items } }
+        ensures { result ≡ record { form = ByPrices; q = q; nu = nu; v = v.items; u = u.items } }
     {
-        Duals { q, nu, v, u }
+        Duals {
+            form: LeafForm::Prices,
+            q,
+            nu,
+            v,
+            u,
+        }
+    }
+
+    /// The duals of these numbers for whole knapsacks, which have prices of 0 alone. It fails only where
+    /// memory runs out.
+    pub fn whole(
+        alloc: Global,
+        inst: &Instance,
+        q: u32,
+        nu: i128,
+        v: Vec<i128>,
+    ) -> Result<Duals, NoMemory>
+        ensures { IfOk result (λ d. d ≡ record { form = Whole; q = q; nu = nu; v = v.items; u = replicate (length inst.now.sites) 0 }) }
+    {
+        Ok(Duals {
+            form: LeafForm::Whole,
+            q,
+            nu,
+            v,
+            u: vec![in alloc; 0; inst.sites()]?,
+        })
     }
 
     /// A copy of these duals. It fails only where memory runs out.
@@ -50,11 +80,19 @@ impl Duals {
         ensures { IfOk result (λ d. d ≡ self.now) }
     {
         Ok(Duals {
+            form: self.form,
             q: self.q,
             nu: self.nu,
             v: Vec::from_slice(*self.v.allocator(), &self.v)?,
             u: Vec::from_slice(*self.u.allocator(), &self.u)?,
         })
+    }
+
+    /// The form in which a leaf takes them.
+    pub fn form(&self) -> LeafForm
+        ensures { result ≡ self.now.form }
+    {
+        self.form
     }
 
     /// The scale, by which the bound is above the costs that it bounds.
@@ -123,12 +161,13 @@ impl Duals {
         self.v[j] = value;
     }
 
-    /// Takes over all numbers of other duals, which are for as many customers and sites.
+    /// Takes over the form and all numbers of other duals, which are for as many customers and sites.
     pub fn copy_from(&mut self, other: &Duals)
         requires customers { length other.now.v ≡ length self.old.v }
         requires sites { length other.now.u ≡ length self.old.u }
         ensures { self.new ≡ other.now }
     {
+        self.form = other.form;
         self.q = other.q;
         self.nu = other.nu;
         self.v.copy_from_slice(&other.v);

@@ -19,7 +19,7 @@ mod seen_path;
 mod settled;
 mod slacks;
 
-pub use bounds::{MAX_BOUND, MAX_SLACK, bound, level, slack};
+pub use bounds::{MAX_BOUND, MAX_SLACK, bound, count_price, level, slack, value_total};
 pub use box_bounds::BoxBounds;
 pub use by_place::DualsByPlace;
 pub use closing::closes;

@@ -5,6 +5,7 @@ ghost use Rattle.location_terms.specs.Fit.{DualsFit};
 use super::*;
 use example_instances::{customer, site, two_sites, warehouses};
 use instance_store::{CustId, Instance, LaneRow, NoMemory, SiteId, SiteStatus};
+use location_terms::LeafForm;
 use std::alloc::Global;
 use std::test::Fail;
 
@@ -407,6 +408,33 @@ fn copies_duals(alloc: Global) -> bool {
     }
 }
 
+// Whether duals and a copy of them have this form.
+fn has_form(duals: Result<Duals, NoMemory>, form: LeafForm) -> bool {
+    match duals {
+        Ok(duals) => duals.form() == form && keeps_form(&duals),
+        Err(_) => false,
+    }
+}
+
+fn keeps_form(duals: &Duals) -> bool {
+    match duals.copied() {
+        Ok(copy) => copy.form() == duals.form(),
+        Err(_) => false,
+    }
+}
+
+// Zeros and numbers with prices have the form of prices, and numbers for whole knapsacks theirs.
+fn has_forms(alloc: Global, inst: &Instance) -> bool {
+    has_form(Duals::zeros(alloc, inst, 7), LeafForm::Prices)
+        && has_form(duals(alloc, 7, 0, &[0, 5, 0], &[0, 1]), LeafForm::Prices)
+        && has_form(whole(alloc, inst), LeafForm::Whole)
+}
+
+fn whole(alloc: Global, inst: &Instance) -> Result<Duals, NoMemory> {
+    let values = Vec::from_slice(alloc, &[0, 5, 0])?;
+    Duals::whole(alloc, inst, 7, 0, values)
+}
+
 #[test]
 fn paths_duals_and_capacities(rt: HostRuntime) {
     let alloc = rt.alloc();
@@ -425,6 +453,7 @@ fn decisions_on_the_example(rt: HostRuntime) -> Result<(), Fail> {
     let mut inst = two_sites(alloc, 0, 3_000)?;
     assert!(rt; finds_the_first_fault(alloc, &inst));
     assert!(rt; replaces_a_dual(alloc, &inst));
+    assert!(rt; has_forms(alloc, &inst));
     assert!(rt; settles_free_sites(alloc, &inst));
     assert!(rt; bars_lanes(alloc, &inst));
     assert!(rt; goes_by_statuses(alloc, &mut inst));

@@ -1,6 +1,6 @@
 -- Instances in which a lane is set, or a site or a customer comes or goes, are valid and are stored as what the rows become.
-use Rattle.std.proofs.Common.{◌≡◌, ◌≢◌, ℕ, ◌+◌, ◌-◌, ◌*◌, ◌<◌, ◌≤◌, ◌==◌, inl, inr, Bool, true, false, not, cond, nat_eq, List, [], ◌∷◌, ◌++◌, map, length, filter, set, insert, remove, All, AllPairs, Contains, Option, None, Some, IfSome, IsSome, slice_index, slice_index_or, get_or, refl, sym, ap, subst, ◌∙◌, arith, if◌then◌else◌, zero, suc}
-use Rattle.std.proofs.lemmas.Bool.{cases_eq, cases_order, ne_eqb, eq-eqb}
+use Rattle.std.proofs.Common.{◌≡◌, ℕ, ◌+◌, ◌-◌, ◌*◌, ◌<◌, ◌≤◌, ◌==◌, inl, inr, Bool, true, false, not, nat_eq, List, [], ◌∷◌, ◌++◌, map, length, filter, set, insert, remove, All, AllPairs, Contains, Option, None, IfSome, IsSome, slice_index, slice_index_or, get_or, refl, sym, ap, subst, ◌∙◌, arith, if◌then◌else◌, zero, suc}
+use Rattle.std.proofs.lemmas.Bool.{cases_order, ne_eqb, eq-eqb}
 use Rattle.std.proofs.lemmas.List.{length-set, length-map, get_or-map, get_or_default, map-set, get_or-set_same, get_or-set_other, same_lists}
 use Rattle.std.proofs.lemmas.List.Edits.{length-insert, length-remove, get_or-insert_at, get_or-insert_below, get_or-insert_above, get_or-remove_below, get_or-remove_above}
 use Rattle.std.proofs.lemmas.List.Elements.{All-set, All-map}
@@ -15,11 +15,11 @@ use Rattle.std.specs.FinMap.{get}
 use Rattle.indexmap.specs.IndexSet.{insert_key, move_index}
 use Rattle.indexmap.proofs.SetLemmas.{map-insert, map-remove}
 use Rattle.indexmap.proofs.MoveLemmas.{push_moved}
-use Rattle.location_terms.specs.declared.limits.TheConstants.{MAX_AMOUNT, MAX_SITES, MAX_CUSTOMERS, MAX_LANES}
+use Rattle.location_terms.specs.declared.limits.TheConstants.{MAX_AMOUNT}
 use Rattle.location_terms.specs.declared.status.SiteStatus.{SiteStatus}
 use Rattle.location_terms.specs.declared.status.SiteStatus.TheVariants.{Free}
 use Rattle.location_terms.specs.Instance.{Instance, Site, Customer, Lanes, AreIds, AreSizes, IsValid, site_ids, customer_ids, site_at, customer_at, lanes_of}
-use Rattle.location_terms.proofs.Places.{length-site_ids, length-customer_ids, slice_index-site_ids, slice_index-customer_ids}
+use Rattle.location_terms.proofs.Places.{slice_index-site_ids, slice_index-customer_ids}
 use Rattle.location_terms.proofs.Table.{IsTable}
 use Rattle.instance_store.specs.declared.rows.SiteRow.{SiteRow}
 use Rattle.instance_store.specs.declared.rows.CustRow.{CustRow}
@@ -28,10 +28,10 @@ use Rattle.instance_store.specs.declared.instance.Instance.TheInside.{Inside}
 use Rattle.instance_store.specs.Small.{IsSmall}
 use Rattle.instance_store.specs.Parts.{site_of, customer_of, cust_row_ids}
 use Rattle.instance_store.specs.Changes.{lanes_with, with_lane_cost, without_site, without_customer, lanes_without_site, lanes_without_customer, with_site_in, with_customer_in, with_row, with_column}
-use Rattle.instance_store.specs.Columns.{AreChanged, AreWithout, AreWith, without_lane, with_lane}
+use Rattle.instance_store.specs.Columns.{AreChanged, AreWithout, AreWith, without_lane, with_lane_at}
 use Rattle.instance_store.specs.Stored.{site_in, stored_ids, stored_rows, stored_instance, IsStored}
 use Rattle.instance_store.proofs.StoredLemmas.{site_ids-stored, customer_ids-stored, table-stored}
-use Rattle.instance_store.proofs.LaneTables.{lane_set, set_known, with_small, row_out, site_out_known, out_small, row_in, column_out, customer_out_known, less_small, column_in, ids_differ, was_apart}
+use Rattle.instance_store.proofs.LaneTables.{lane_set, set_known, with_small, row_out, site_out_known, out_small, row_in, column_out, customer_out_known, less_small, column_in, was_apart}
 
 -- what all have is had by those that stay, and by one more that has it
 pub All-remove : {X : Type 0} (P : X → Type 0) (xs : List X) (p : ℕ) → p < length xs → All P xs → All P (remove xs p)
@@ -492,7 +492,7 @@ module _ (a : Inside) (stored : IsStored a) where
       full-more = omega (arith, full, J-sites-long, ss-long, ap (λ (L : Instance). length L.sites) view)
 
       abbrev put : ℕ → StoredSite → StoredSite
-      put = λ i s. with_lane p (slice_index_or column i None) s
+      put = λ i s. with_lane_at p (slice_index_or column i None) s
 
       ids-more : cust_row_ids b.custs.items ≡ insert cs p row.id
       ids-more = ap cust_row_ids custs ∙ map-insert (λ (c : CustRow). c.id) a.custs.items p row

@@ -1,13 +1,13 @@
 -- Rows that get one lane more or less each, one after another.
-use Rattle.std.proofs.Common.{◌≡◌, ◌≢◌, ℕ, ◌+◌, ◌<◌, ◌≤◌, inl, inr, List, [], ◌∷◌, ◌++◌, map, length, take, set, insert, remove, All, Option, None, slice_index_or, get_or, refl, sym, ap, subst, ◌∙◌, arith}
+use Rattle.std.proofs.Common.{◌≡◌, ℕ, ◌+◌, ◌<◌, ◌≤◌, inl, inr, List, [], ◌∷◌, ◌++◌, map, length, take, set, insert, remove, All, Option, None, slice_index_or, get_or, refl, sym, ap, subst, ◌∙◌, arith}
 use Rattle.std.proofs.lemmas.Bool.{cases_eq, cases_order}
 use Rattle.std.proofs.lemmas.List.{length-map, length-set, length-take-le, get_or-map, get_or-take, get_or-set_same, get_or-set_other, set-get_or, get_or_default, take_more, same_lists}
 use Rattle.std.proofs.lemmas.List.Edits.{length-insert, length-remove, get_or-insert_below, get_or-insert_above, get_or-remove_below, get_or-remove_above}
 use Rattle.instance_store.specs.declared.instance.StoredSite.{StoredSite}
-use Rattle.instance_store.specs.Columns.{lanes_at, without_lane, with_lane, AreChanged, AreWithout, AreWith}
+use Rattle.instance_store.specs.Columns.{column_in, without_lane, with_lane_at, AreChanged, AreWithout, AreWith}
 
 -- one lane more of a column
-pub lanes_at_more : (sites : List StoredSite) (cust k : ℕ) (x : StoredSite) → k < length sites → x ≡ get_or sites k x → take k (lanes_at sites cust) ++ slice_index_or x.row.lanes cust None ∷ [] ≡ take (k + 1) (lanes_at sites cust)
+pub lanes_at_more : (sites : List StoredSite) (cust k : ℕ) (x : StoredSite) → k < length sites → x ≡ get_or sites k x → take k (column_in sites cust) ++ slice_index_or x.row.lanes cust None ∷ [] ≡ take (k + 1) (column_in sites cust)
 lanes_at_more sites cust k x within item =
     let lane : StoredSite → Option ℕ = λ s. slice_index_or s.row.lanes cust None in
     sym (take_more (map lane sites) k (lane x) (omega (arith, within, length-map sites lane)) ∙ ap (λ y. take k (map lane sites) ++ y ∷ []) (get_or-map lane sites k x (lane x) within ∙ ap lane (sym item)))
@@ -66,7 +66,7 @@ module _ (n place : ℕ) (lanes : List (Option ℕ)) (old now : List StoredSite)
       let first : k < n = omega (arith, below, count) in
       let inside : k < length old = omega (arith, first, within) in
       let fits : place ≤ length (get_or old k d).row.lanes = fit k d inside in
-      let is : get_or (take n now) k d ≡ with_lane place (slice_index_or lanes k None) (get_or old k d) = get_or-take n now k d first ∙ so.first k d first inside in
+      let is : get_or (take n now) k d ≡ with_lane_at place (slice_index_or lanes k None) (get_or old k d) = get_or-take n now k d first ∙ so.first k d first inside in
       subst (λ (s : StoredSite). place < length s.row.lanes) (sym is) (let longer = length-insert (get_or old k d).row.lanes place (slice_index_or lanes k None) fits in omega (arith, longer, fits))
 
   -- rows whose lanes were taken back are as they were

@@ -1,30 +1,19 @@
 -- A table of lanes in which a row, a column or one lane changes: its lanes are those of the table before with the same change by ids.
-use Rattle.std.proofs.Common.{◌≡◌, ◌≢◌, ℕ, zero, suc, ◌+◌, ◌-◌, ◌<◌, ◌≤◌, ◌==◌, inl, inr, Bool, true, false, not, cond, List, [], ◌∷◌, length, All, AllPairs, Contains, Option, None, Some, IfSome, IsSome, is_some, slice_index, slice_index_or, get_or, set, insert, remove, refl, sym, ap, subst, ◌∙◌, arith}
+use Rattle.std.proofs.Common.{◌≡◌, ◌≢◌, ℕ, zero, suc, ◌+◌, ◌-◌, ◌<◌, ◌≤◌, ◌==◌, inl, inr, Bool, true, false, not, cond, List, [], ◌∷◌, length, All, AllPairs, Contains, Option, None, Some, IfSome, IsSome, slice_index, slice_index_or, set, insert, remove, refl, sym, ap, subst, ◌∙◌, arith}
 use Rattle.std.proofs.lemmas.Bool.{cases_eq, cases_order, ne_eqb, eq-eqb}
-use Rattle.std.proofs.lemmas.List.{length-set, get_or_default, get_or-set_same, get_or-set_other}
+use Rattle.std.proofs.lemmas.List.{get_or_default, get_or-set_same, get_or-set_other}
 use Rattle.std.proofs.lemmas.List.Edits.{length-insert, length-remove, get_or-insert_at, get_or-insert_below, get_or-insert_above, get_or-remove_below, get_or-remove_above}
 use Rattle.std.proofs.lemmas.List.Elements.{Contains-get_or, Contains-append_right, All-contains}
 use Rattle.std.proofs.lemmas.List.Kept.{AllPairs-from_increasing}
-use Rattle.std.proofs.lemmas.Cmp.{tied_itself}
-use Rattle.std.specs.Ordering.{is_eq, eq_by_cmp}
+use Rattle.std.specs.Ordering.{eq_by_cmp}
 use Rattle.std.specs.List.Sorted.{IsStrictlyIncreasing}
 use Rattle.std.specs.FinMap as map_of
 use Rattle.std.specs.FinMap.{get, get-insert, get-remove, get-retain_keys}
 use Rattle.location_terms.specs.Instance.{Lanes, pair_cmp, row_entries, lanes_of}
-use Rattle.location_terms.proofs.Table.{IsTable, HasLanesAmong, pair_cmp-total, pair_cmp-exact, tied, get-lanes_of, lanes_of_known, lanes_from_places}
+use Rattle.location_terms.proofs.Table.{IsTable, pair_cmp-total, pair_cmp-exact, tied, pair_tied, pair_apart, get-lanes_of, lanes_of_known, lanes_from_places}
 use Rattle.instance_store.specs.Changes.{lanes_with, lanes_and, with_row, with_column, lanes_without_site, lanes_without_customer}
 
 -- one map after another
-
-pair_tied : (p : ℕ × ℕ) → eq_by_cmp pair_cmp p p ≡ true
-pair_tied p = ap is_eq (tied_itself pair_cmp-total p)
-
-pair_apart : (p q : ℕ × ℕ) → (p ≡ q → ⊥) → eq_by_cmp pair_cmp p q ≡ false
-pair_apart p q apart = by (eq_by_cmp pair_cmp p q) refl
-  where
-    by : (b : Bool) → eq_by_cmp pair_cmp p q ≡ b → b ≡ false
-    by true e = absurd (apart (pair_cmp-exact p q (tied _ e)))
-    by false e = refl
 
 insert_same : (m : Lanes) (p : ℕ × ℕ) (cost : ℕ) → get (map_of.insert m p cost) p ≡ Some cost
 insert_same m p cost = get-insert pair_cmp-total m p cost p ∙ ap (λ b. cond b (Some cost) (get m p)) (pair_tied p)

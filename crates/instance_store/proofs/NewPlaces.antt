@@ -1,5 +1,5 @@
 -- The places of ids to which one more comes, and the lanes of all rows at one place.
-use Rattle.std.proofs.Common.{◌≡◌, ℕ, zero, suc, ◌<◌, ◌≤◌, Bool, true, false, nat_eq, List, [], ◌∷◌, ◌++◌, map, length, take, vec_len, insert, Option, None, Some, Result, Ok, Err, is_err, IfOk, IfErr, slice_index_or, get_or, refl, sym, ap, subst, ◌∙◌, arith}
+use Rattle.std.proofs.Common.{◌≡◌, ℕ, zero, suc, ◌<◌, ◌≤◌, true, false, nat_eq, List, [], ◌∷◌, ◌++◌, map, length, take, vec_len, insert, Option, None, Result, Ok, Err, is_err, IfOk, IfErr, slice_index_or, get_or, refl, sym, ap, subst, ◌∙◌, arith}
 use Rattle.std.specs.Vec.{with_items}
 use Rattle.std.specs.List.{list_any, position_or_len}
 use Rattle.std.specs.List.Sorted.{IsStrictlyIncreasing}
@@ -15,7 +15,7 @@ use Rattle.instance_store.specs.declared.instance.StoredSite.{StoredSite}
 use Rattle.instance_store.specs.declared.instance.Instance.TheInside.{Inside}
 use Rattle.instance_store.specs.Parts.{site_of, customer_of}
 use Rattle.instance_store.specs.Changes.{with_site_in, with_customer_in, column_of}
-use Rattle.instance_store.specs.Columns.{lanes_at}
+use Rattle.instance_store.specs.Columns.{column_in}
 use Rattle.instance_store.specs.Stored.{stored_instance, IsStored}
 use Rattle.instance_store.proofs.StoredLemmas.{site_ids-stored, customer_ids-stored, sites-seen, customers-seen, lane-seen}
 use Rattle.instance_store.proofs.ChangeLemmas.{new_id, placed_id}
@@ -67,7 +67,7 @@ module _ (a : Inside) (stored : IsStored a) (I : Instance) (view : stored_instan
       subst IsStrictlyIncreasing (map-insert (λ (c : Customer). c.id) J.customers p (customer_of row) ∙ ap (λ ids. insert ids p row.id) (customer_ids-stored a ∙ sym stored.cust_places)) before.customers_named.rising
 
   -- the lanes of all rows at a customer's place are that customer's
-  pub column-seen : (j : ℕ) → j < length I.customers → lanes_at a.sites.items j ≡ column_of I (customer_at I j).id
+  pub column-seen : (j : ℕ) → j < length I.customers → column_in a.sites.items j ≡ column_of I (customer_at I j).id
   column-seen j inside =
       let at : StoredSite → Option ℕ = λ s. slice_index_or s.row.lanes j None in
       let to : Site → Option ℕ = λ x. lane I x.id (customer_at I j).id in

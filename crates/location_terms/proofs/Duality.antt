@@ -9,7 +9,10 @@ use Rattle.std.proofs.lemmas.Nat.{mul-le}
 use Rattle.location_terms.specs.Instance.{Instance, IsValid, site_ids, site_at, customer_at, lane, fixed_of}
 use Rattle.location_terms.specs.Plan.{Plan, IsFeasible, cost_of}
 use Rattle.location_terms.specs.Box.{Path, IsInBox}
-use Rattle.location_terms.specs.Bound.{Duals, AreDualsOf, v_at, total, share_of, count_price, bound_of}
+use Rattle.location_terms.specs.Bound.{Duals, AreDualsOf, v_at, total, count_price, bound_of}
+use Rattle.location_terms.specs.declared.form.LeafForm.{LeafForm}
+use Rattle.location_terms.specs.declared.form.LeafForm.TheVariants.{Prices}
+use Rattle.location_terms.specs.Leaf.{share_in, bound_in, leaf_bound}
 use Rattle.location_terms.proofs.Totals.{total_same, total_le, total_plus, total_minus, total_at, total_swap, total_price, total_refund}
 use Rattle.location_terms.proofs.Listed.{total-sum_by}
 use Rattle.location_terms.proofs.Places.{fixed_of-site_at}
@@ -72,17 +75,23 @@ module _ (I : Instance) (path : Path) (d : Duals) (P : Plan) (valid : IsValid I)
       ∙ total_minus cost (v_at d) n
       ∙ ap (λ z. z -ℤ total (v_at d) n) (ap (total cost) (sym (as_many_served I valid P feasible)) ∙ total-sum_by d.q (λ v. unwrap_or (lane I v.1 v.0) 0) P.serves (0, 0))
 
-  pub bound_within_cost : AreDualsOf I d → IsInBox P path → bound_of I path d ≤ℤ pos (d.q * cost_of I P)
-  bound_within_cost duals in_box =
+  bound_in_within : (form : LeafForm) → AreDualsOf I d → IsInBox P path → bound_in form I path d ≤ℤ pos (d.q * cost_of I P)
+  bound_in_within form duals in_box =
       let m : ℕ = length I.sites in
       let paid_for_sites : ℕ → ℤ = λ i. total (opening_at I path d P i) (length P.sites) in
       let paid_for_lanes : ℕ → ℤ = λ i. total (serving_at I path d P i) (length I.customers) in
       omega (
         arith,
         ints,
-        total_le (share_of I path d) (λ i. paid_for_sites i +ℤ paid_for_lanes i) m (share_covered I path d P valid duals feasible in_box),
+        total_le (share_in form I path d) (λ i. paid_for_sites i +ℤ paid_for_lanes i) m (λ i b. share_covered I path d P valid duals feasible in_box i b form),
         total_plus paid_for_sites paid_for_lanes m,
         openings,
         servings,
         price_of_count I d.nu (length P.sites) feasible.at_least feasible.at_most,
       )
+
+  pub bound_within_cost : AreDualsOf I d → IsInBox P path → bound_of I path d ≤ℤ pos (d.q * cost_of I P)
+  bound_within_cost = bound_in_within Prices
+
+  pub leaf_bound_within_cost : AreDualsOf I d → IsInBox P path → leaf_bound I path d ≤ℤ pos (d.q * cost_of I P)
+  leaf_bound_within_cost = bound_in_within d.form

@@ -4,6 +4,7 @@ pub mod Rising
 pub mod Membership
 pub mod Kept
 pub mod Served
+pub mod WholeSets
 pub mod Shares
 pub mod Duality
 pub mod Leaves

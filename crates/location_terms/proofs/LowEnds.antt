@@ -9,10 +9,11 @@ use Rattle.location_terms.specs.Instance.{Instance, IsValid}
 use Rattle.location_terms.specs.Plan.{cost_of}
 use Rattle.location_terms.specs.Optimal.{IsLowEnd, IsImpossible}
 use Rattle.location_terms.specs.Box.{Path}
-use Rattle.location_terms.specs.Bound.{Duals, AreDualsOf, bound_of}
-use Rattle.location_terms.specs.Fit.{BoundCloses, Closes}
+use Rattle.location_terms.specs.Bound.{Duals, AreDualsOf}
+use Rattle.location_terms.specs.Fit.{BoundCloses}
+use Rattle.location_terms.specs.Leaf.{leaf_bound, LeafCloses}
 use Rattle.location_terms.specs.Tree.{Tree, leaves_of, AllClose, low_end, low_of}
-use Rattle.location_terms.proofs.Duality.{bound_within_cost}
+use Rattle.location_terms.proofs.Duality.{leaf_bound_within_cost}
 use Rattle.location_terms.proofs.Leaves.{IsCovered, covered}
 use Rattle.location_terms.proofs.Closing.{none_within_untargeted, target_within, low_end_within}
 
@@ -46,29 +47,29 @@ module _ (I : Instance) (valid : IsValid I) where
   pub shows_low_end : (t : Tree) (T : ℕ) → AllClose I t (Some T) → IsLowEnd I T
   shows_low_end t T closed Q feasible =
       let leaf : IsCovered Q (leaves_of t) = covered t Q in
-      let closes : Closes I leaf.0.0 leaf.0.1 (Some T) = All-contains (λ l. Closes I l.0 l.1 (Some T)) (leaves_of t) leaf.0 closed leaf.1 in
-      target_within (bound_of I leaf.0.0 leaf.0.1) leaf.0.1.q T (cost_of I Q) closes.closed
-      (bound_within_cost I leaf.0.0 leaf.0.1 Q valid feasible closes.fit.of_instance leaf.2)
+      let closes : LeafCloses I leaf.0.0 leaf.0.1 (Some T) = All-contains (λ l. LeafCloses I l.0 l.1 (Some T)) (leaves_of t) leaf.0 closed leaf.1 in
+      target_within (leaf_bound I leaf.0.0 leaf.0.1) leaf.0.1.q T (cost_of I Q) closes.closed
+      (leaf_bound_within_cost I leaf.0.0 leaf.0.1 Q valid feasible closes.fit.numbers.of_instance leaf.2)
 
   -- a leaf that closes without a target has no feasible plan
   pub shows_impossible : (t : Tree) → AllClose I t None → IsImpossible I
   shows_impossible t closed Q feasible =
       let leaf : IsCovered Q (leaves_of t) = covered t Q in
-      let closes : Closes I leaf.0.0 leaf.0.1 None = All-contains (λ l. Closes I l.0 l.1 None) (leaves_of t) leaf.0 closed leaf.1 in
-      none_within_untargeted (bound_of I leaf.0.0 leaf.0.1) leaf.0.1.q (cost_of I Q) closes.closed
-      (bound_within_cost I leaf.0.0 leaf.0.1 Q valid feasible closes.fit.of_instance leaf.2)
+      let closes : LeafCloses I leaf.0.0 leaf.0.1 None = All-contains (λ l. LeafCloses I l.0 l.1 None) (leaves_of t) leaf.0 closed leaf.1 in
+      none_within_untargeted (leaf_bound I leaf.0.0 leaf.0.1) leaf.0.1.q (cost_of I Q) closes.closed
+      (leaf_bound_within_cost I leaf.0.0 leaf.0.1 Q valid feasible closes.fit.numbers.of_instance leaf.2)
 
   -- a leaf of scale 0 has no feasible plan, and another one has none below its own low end
-  pub shows_low : (t : Tree) → All (λ l. AreDualsOf I l.1) (leaves_of t) → All (λ l. l.1.q ≡ 0 → BoundCloses (bound_of I l.0 l.1) 0 None) (leaves_of t) → IsLowEnd I (low_of I t)
+  pub shows_low : (t : Tree) → All (λ l. AreDualsOf I l.1) (leaves_of t) → All (λ l. l.1.q ≡ 0 → BoundCloses (leaf_bound I l.0 l.1) 0 None) (leaves_of t) → IsLowEnd I (low_of I t)
   shows_low t fit rays Q feasible =
       let leaf : IsCovered Q (leaves_of t) = covered t Q in
       let d : Duals = leaf.0.1 in
-      let bound : ℤ = bound_of I leaf.0.0 d in
-      let within : bound ≤ℤ pos (d.q * cost_of I Q) = bound_within_cost I leaf.0.0 d Q valid feasible (All-contains (λ l. AreDualsOf I l.1) (leaves_of t) leaf.0 fit leaf.1) leaf.2 in
+      let bound : ℤ = leaf_bound I leaf.0.0 d in
+      let within : bound ≤ℤ pos (d.q * cost_of I Q) = leaf_bound_within_cost I leaf.0.0 d Q valid feasible (All-contains (λ l. AreDualsOf I l.1) (leaves_of t) leaf.0 fit leaf.1) leaf.2 in
       elim (cases_eq d.q 0) [
-        | inl unscaled ↦ let closed : BoundCloses bound 0 None = All-contains (λ l. l.1.q ≡ 0 → BoundCloses (bound_of I l.0 l.1) 0 None) (leaves_of t) leaf.0 rays leaf.1 unscaled in
+        | inl unscaled ↦ let closed : BoundCloses bound 0 None = All-contains (λ l. l.1.q ≡ 0 → BoundCloses (leaf_bound I l.0 l.1) 0 None) (leaves_of t) leaf.0 rays leaf.1 unscaled in
             absurd (none_within_untargeted bound 0 (cost_of I Q) closed (subst (λ q. bound ≤ℤ pos (q * cost_of I Q)) unscaled within))
         | inr scaled ↦ let low : low_end bound d.q ≤ cost_of I Q = low_end_within bound d.q (cost_of I Q) (omega arith) within in
-            let least_is : low_of I t ≤ low_end bound d.q = least_within (λ (l : Path × Duals). low_end (bound_of I l.0 l.1) l.1.q) (λ l. nat_lt 0 l.1.q) MAX_COST (leaves_of t) leaf.1.0 leaf.0 leaf.1.1 leaf.1.2 (lt-ltb 0 d.q (omega arith)) in
+            let least_is : low_of I t ≤ low_end bound d.q = least_within (λ (l : Path × Duals). low_end (leaf_bound I l.0 l.1) l.1.q) (λ l. nat_lt 0 l.1.q) MAX_COST (leaves_of t) leaf.1.0 leaf.0 leaf.1.1 leaf.1.2 (lt-ltb 0 d.q (omega arith)) in
             omega arith
       ]

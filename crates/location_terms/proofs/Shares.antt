@@ -11,7 +11,12 @@ use Rattle.std.proofs.lemmas.Nat.{mul-le}
 use Rattle.location_terms.specs.Instance.{Instance, Site, IsValid, site_at, customer_at, lane}
 use Rattle.location_terms.specs.Plan.{Plan, IsFeasible, load_of, KeepsStatus}
 use Rattle.location_terms.specs.Box.{Path, IsInBox, is_closed, is_called_for, is_torn, is_allowed, holds_demand, bars_lane}
-use Rattle.location_terms.specs.Bound.{Duals, AreDualsOf, v_at, u_at, total, paid_at, cap_price, slack_of, share_of}
+use Rattle.location_terms.specs.declared.form.LeafForm.{LeafForm}
+use Rattle.location_terms.specs.declared.form.LeafForm.TheVariants.{Prices, Whole}
+use Rattle.location_terms.specs.Bound.{Duals, AreDualsOf, v_at, u_at, total, paid_at, cap_price, slack_of}
+use Rattle.location_terms.specs.Knapsack.{surplus_at}
+use Rattle.location_terms.specs.Leaf.{slack_in, share_in}
+use Rattle.location_terms.proofs.WholeSets.{collected}
 use Rattle.location_terms.proofs.Totals.{total_le, total_plus, total_zero, total_at, total_nowhere}
 use Rattle.location_terms.proofs.Rising.{one_place}
 use Rattle.location_terms.proofs.Membership.{has_or_lacks}
@@ -49,6 +54,11 @@ cap_covers u load (Some cap) unpriced within = mul-le u load u cap (omega arith)
 cap_holds : (demand load : ℕ) (cap : Option ℕ) → demand ≤ load → IfSome cap (λ c. load ≤ c) → holds_demand cap demand ≡ true
 cap_holds demand load None part within = refl
 cap_holds demand load (Some cap) part within = le-leb demand cap (omega arith)
+
+-- what a customer's dual pays above the cost of its lane, and what the plan pays above the dual
+paid_back : (used : Bool) (v : ℤ) (cost : ℕ) → (cond used (v -ℤ pos cost) (pos 0) +ℤ cond used (pos cost -ℤ v) (pos 0)) ≡ pos 0
+paid_back true v cost = omega (arith, ints)
+paid_back false v cost = omega (arith, ints)
 
 module _ (I : Instance) (path : Path) (d : Duals) (P : Plan) where
   -- what the plan pays for the site at i to be its k-th open one
@@ -108,6 +118,25 @@ module _ (I : Instance) (path : Path) (d : Duals) (P : Plan) where
             cap_covers (u_at d i) _ _ (duals.unpriced i b) load_within,
           )
 
+      -- what the site collects from the customers that it serves whole is within its best set
+      whole_covered : slack_in Whole I path d i ≤ℤ (total (opening_at i) (length P.sites) +ℤ total (serving_at i) (length I.customers))
+      whole_covered =
+          let n : ℕ = length I.customers in
+          let pays : ℕ → ℤ = λ j. cond (is_served_from I P i j) (surplus_at I d i j) (pos 0) in
+          let holds : holds_demand (site_at I i).cap (load_of I P (site_at I i).id) ≡ true = cap_holds _ (load_of I P (site_at I i).id) _ (omega arith) load_within in
+          omega (
+            arith,
+            ints,
+            opened,
+            collected I path d P i used_is_allowed (total_load I valid P feasible 1 i) holds,
+            total_plus pays (serving_at i) n,
+            total_zero (λ j. pays j +ℤ serving_at i j) n (λ j _. paid_back (is_served_from I P i j) (v_at d j) _),
+          )
+
+      slack_covered_in : (form : LeafForm) → slack_in form I path d i ≤ℤ (total (opening_at i) (length P.sites) +ℤ total (serving_at i) (length I.customers))
+      slack_covered_in Prices = slack_covered
+      slack_covered_in Whole = whole_covered
+
     -- at a site that is not open
     module _ (lacks : Contains P.sites (site_at I i).id → ⊥) where
       no_opening : total (opening_at i) (length P.sites) ≡ pos 0
@@ -118,18 +147,18 @@ module _ (I : Instance) (path : Path) (d : Duals) (P : Plan) where
       no_serving =
           total_nowhere _ (is_served_from I P i) (length I.customers) (λ j c t. lacks (subst (Contains P.sites) (eqb-true _ _ t) (server_is_open I valid P feasible j c)))
 
-    pub share_covered : share_of I path d i ≤ℤ (total (opening_at i) (length P.sites) +ℤ total (serving_at i) (length I.customers))
-    share_covered =
+    pub share_covered : (form : LeafForm) → share_in form I path d i ≤ℤ (total (opening_at i) (length P.sites) +ℤ total (serving_at i) (length I.customers))
+    share_covered form =
         let s : Site = site_at I i in
-        let slack : ℤ = slack_of I path d i in
+        let slack : ℤ = slack_in form I path d i in
         let called : Bool = is_called_for path s in
         let closed : Bool = is_closed path s in
         elim (has_or_lacks P.sites s.id) [
           | inl is_open ↦
-              let within : share_of I path d i ≤ℤ slack = share_within_slack called closed slack (not_closed is_open) in
-              omega (arith, ints, within, slack_covered is_open)
+              let within : share_in form I path d i ≤ℤ slack = share_within_slack called closed slack (not_closed is_open) in
+              omega (arith, ints, within, slack_covered_in is_open form)
           | inr lacks ↦
               let uncalled : called ≡ false = false_from_ne_true called (λ t. lacks (called_is_open I P feasible path in_box s keeps t)) in
-              let nothing : share_of I path d i ≤ℤ pos 0 = share_of_unopened called closed slack uncalled in
+              let nothing : share_in form I path d i ≤ℤ pos 0 = share_of_unopened called closed slack uncalled in
               omega (arith, ints, nothing, no_opening lacks, no_serving lacks)
         ]

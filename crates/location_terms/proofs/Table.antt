@@ -70,10 +70,10 @@ table_holds : (P : ℕ × ℕ → ℕ → Type 0) (pair : ℕ → ℕ → ℕ ×
 table_holds P pair ss cs rows h q = subst (λ o. IfSome o (P q)) (sym (get-from_entries pair_cmp-total (table_entries pair ss cs rows) q)) (find_holds P (table_entries pair ss cs rows) q (table_entries_hold P pair ss cs rows h))
 
 -- a test of equal numbers passes, and one of different numbers fails
-pair_tied : (p : ℕ × ℕ) → eq_by_cmp pair_cmp p p ≡ true
+pub pair_tied : (p : ℕ × ℕ) → eq_by_cmp pair_cmp p p ≡ true
 pair_tied p = ap is_eq (tied_itself pair_cmp-total p)
 
-pair_apart : (p q : ℕ × ℕ) → (p ≡ q → ⊥) → eq_by_cmp pair_cmp p q ≡ false
+pub pair_apart : (p q : ℕ × ℕ) → (p ≡ q → ⊥) → eq_by_cmp pair_cmp p q ≡ false
 pair_apart p q apart = by (eq_by_cmp pair_cmp p q) refl
   where
     by : (b : Bool) → eq_by_cmp pair_cmp p q ≡ b → b ≡ false

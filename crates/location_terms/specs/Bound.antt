@@ -1,12 +1,14 @@
--- The dual bound of a box: the condensed dual of Erlenkotter, Operations Research 26 (1978), with its constraints priced,
+-- The dual bound of a box by prices: the condensed dual of Erlenkotter, Operations Research 26 (1978), with its constraints priced,
 -- scaled by q, with a multiplier for each capacity and one for the number of open sites.
 use Rattle.std.specs.Prelude.{◌≡◌, ℕ, ◌+◌, ◌*◌, ◌<◌, zero, suc, List, length, Option, None, Some, unwrap_or, ℤ, pos, negsuc, ◌+ℤ◌, ◌-ℤ◌, ◌*ℤ◌, slice_index, slice_index_or, if◌then◌else◌}
 use Rattle.std.specs.Int.{int_max, int_min}
+use Rattle.location_terms.specs.declared.form.LeafForm.{LeafForm}
 use Rattle.location_terms.specs.Instance.{Instance, site_at, customer_at, lane}
 use Rattle.location_terms.specs.Box.{Path, is_allowed, is_opened, is_free}
 
--- a scale, a price on the number of sites, a dual for each customer and a price for each capacity, by place
+-- the form in which a leaf takes them, a scale, a price on the number of sites, a dual for each customer and a price for each capacity, by place
 pub record Duals : Type 0 where
+  pub form : LeafForm
   pub q : ℕ
   pub nu : ℤ
   pub v : List ℤ
@@ -42,7 +44,7 @@ abbrev pub cap_price : ℕ → Option ℕ → ℕ
 cap_price u None = 0
 cap_price u (Some cap) = u * cap
 
--- what is left of the site's scaled fixed cost, its slack
+-- what is left of the site's scaled fixed cost, its slack; by prices, whatever the form of the duals is, as all that follows
 abbrev pub slack_of : Instance → Path → Duals → ℕ → ℤ
 slack_of I path d i = ((pos (d.q * (site_at I i).fixed) +ℤ d.nu) -ℤ pos (cap_price (u_at d i) (site_at I i).cap)) -ℤ total (paid_at I path d i) (length I.customers)
 

@@ -1,8 +1,7 @@
 -- Duals within the limits in which the suite's sums fit their types, and when they close a box.
 use Rattle.std.specs.Prelude.{◌≡◌, ◌⊎◌, ℕ, ◌*◌, ◌≤◌, All, Option, IsSomeAnd, ℤ, pos, ◌-ℤ◌, ◌*ℤ◌, ◌≤ℤ◌, ◌<ℤ◌, unsigned_abs}
 use Rattle.location_terms.specs.Instance.{Instance}
-use Rattle.location_terms.specs.Box.{Path}
-use Rattle.location_terms.specs.Bound.{Duals, AreDualsOf, bound_of}
+use Rattle.location_terms.specs.Bound.{Duals, AreDualsOf}
 use Rattle.location_terms.specs.declared.limits.TheConstants.{MAX_SCALE, MAX_VALUE, MAX_MULTIPLIER, MAX_TAME}
 
 -- the numbers of a leaf's duals are within their limits
@@ -28,8 +27,3 @@ pub record AreTame (I : Instance) (d : Duals) : Type 0 where
 -- costs less than T, since costs are whole.
 abbrev pub BoundCloses : ℤ → ℕ → Option ℕ → Type 0
 BoundCloses bound q target = ((q ≡ 0) × (pos 1 ≤ℤ bound)) ⊎ ((1 ≤ q) × IsSomeAnd target (λ T. (pos q *ℤ (pos T -ℤ pos 1)) <ℤ bound))
-
--- the duals close the box against the target, or without a target
-pub record Closes (I : Instance) (path : Path) (d : Duals) (target : Option ℕ) : Type 0 where
-  pub fit : DualsFit I d
-  pub closed : BoundCloses (bound_of I path d) d.q target

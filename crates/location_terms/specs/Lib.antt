@@ -4,9 +4,10 @@ pub mod Optimal
 pub mod Box
 pub mod Bound
 pub mod Fit
+pub mod Knapsack
+pub mod Leaf
 pub mod Split
 pub mod Tree
 pub mod Certificate
 pub mod Plain
 pub mod Carried
-pub mod Knapsack

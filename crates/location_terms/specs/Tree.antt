@@ -5,8 +5,9 @@ use Rattle.location_terms.specs.declared.limits.TheConstants.{MAX_COST}
 use Rattle.location_terms.specs.Instance.{Instance, site_ids, customer_ids}
 use Rattle.location_terms.specs.Box.{Path}
 use Rattle.location_terms.specs.Split.{first_step, second_step, IsSplitAmong}
-use Rattle.location_terms.specs.Bound.{Duals, bound_of}
-use Rattle.location_terms.specs.Fit.{AreInLimits, Closes}
+use Rattle.location_terms.specs.Bound.{Duals}
+use Rattle.location_terms.specs.Fit.{AreInLimits}
+use Rattle.location_terms.specs.Leaf.{leaf_bound, PricesSuit, LeafCloses}
 
 -- a leaf, or a split with its first and its second child
 pub data Node : Type 0 where
@@ -40,9 +41,9 @@ abbrev pub SplitsAmong : List ℕ → List ℕ → Node → Type 0
 SplitsAmong sites customers (Leaf d) = Unit {0}
 SplitsAmong sites customers (Fork split first second) = IsSplitAmong sites customers split × SplitsAmong sites customers first × SplitsAmong sites customers second
 
--- each leaf has a number for each site and customer, within the limits
+-- each leaf has a number for each site and customer, within the limits, and where it takes whole knapsacks no prices
 abbrev pub HasLists : ℕ → ℕ → Duals → Type 0
-HasLists m n d = (length d.u ≡ m) × (length d.v ≡ n) × AreInLimits d
+HasLists m n d = (length d.u ≡ m) × (length d.v ≡ n) × AreInLimits d × PricesSuit d.form d.u
 
 pub record IsTree (t : Tree) : Type 0 where
   pub splits : SplitsAmong t.sites t.customers t.root
@@ -55,7 +56,7 @@ pub record StandsOn (t : Tree) (I : Instance) : Type 0 where
 
 -- every leaf closes against the target, or without one
 abbrev pub AllClose : Instance → Tree → Option ℕ → Type 0
-AllClose I t target = All (λ l. Closes I l.0 l.1 target) (leaves_of t)
+AllClose I t target = All (λ l. LeafCloses I l.0 l.1 target) (leaves_of t)
 
 -- the least whole number that is at least bound / q, 0 where that is below 0, at most MAX_COST
 abbrev pub low_end : ℤ → ℕ → ℕ
@@ -64,4 +65,4 @@ low_end (negsuc b) q = 0
 
 -- The low end that the tree shows: the least over the leaves with a scale, and MAX_COST where there is none.
 abbrev pub low_of : Instance → Tree → ℕ
-low_of I t = fold (λ least l. min least (low_end (bound_of I l.0 l.1) l.1.q)) MAX_COST (filter (λ l. nat_lt 0 l.1.q) (leaves_of t))
+low_of I t = fold (λ least l. min least (low_end (leaf_bound I l.0 l.1) l.1.q)) MAX_COST (filter (λ l. nat_lt 0 l.1.q) (leaves_of t))

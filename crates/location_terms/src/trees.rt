@@ -4,8 +4,9 @@ ghost use Rattle.location_terms.specs.Instance.{Instance, IsValid};
 ghost use Rattle.location_terms.specs.Plan.{Plan};
 ghost use Rattle.location_terms.specs.Optimal.{IsLowEnd, IsImpossible, ClaimHolds};
 ghost use Rattle.location_terms.specs.Box.{Path, IsInBox};
-ghost use Rattle.location_terms.specs.Bound.{Duals, AreDualsOf, bound_of};
+ghost use Rattle.location_terms.specs.Bound.{Duals, AreDualsOf};
 ghost use Rattle.location_terms.specs.Fit.{BoundCloses};
+ghost use Rattle.location_terms.specs.Leaf.{leaf_bound};
 ghost use Rattle.location_terms.specs.Tree.{Tree, leaves_of, AllClose, low_of};
 ghost use Rattle.location_terms.specs.Certificate.{Certificate, IsAccepted};
 
@@ -24,7 +25,7 @@ pub fn tree_shows()
         IsValid I → AllClose I t None → IsImpossible I }
     ensures low { (I : Instance) (t : Tree) → IsValid I →
         All (λ l. AreDualsOf I l.1) (leaves_of t) →
-        All (λ l. l.1.q ≡ 0 → BoundCloses (bound_of I l.0 l.1) 0 None) (leaves_of t) →
+        All (λ l. l.1.q ≡ 0 → BoundCloses (leaf_bound I l.0 l.1) 0 None) (leaves_of t) →
         IsLowEnd I (low_of I t) }
 {}
 

@@ -2,7 +2,7 @@
 ghost use Rattle.std.specs.Prelude.{◌≡◌, ◌<◌, ◌≤◌, length, take, All, IfOk, OnOk, IfErr, OnErr};
 ghost use Rattle.location_terms.specs.Instance.{site_at, customer_at, site_ids, customer_ids, AreIds, IsValid};
 ghost use Rattle.instance_store.specs.Small.{IsSmall};
-ghost use Rattle.instance_store.specs.Columns.{lanes_at, AreWithout, AreWith};
+ghost use Rattle.instance_store.specs.Columns.{column_in, AreWithout, AreWith};
 ghost use Rattle.instance_store.specs.Changes.{with_fixed, with_cap, with_status, with_demand, with_lane_cost, with_count, with_next_ids, without_site, without_customer, with_site_in, with_customer_in, site_row, cust_row, column_of};
 
 use super::{Instance, StoredSite};
@@ -193,7 +193,7 @@ impl Instance {
 // The lanes to the customer at place `cust`, from the sites in their order.
 fn column_at(alloc: Global, sites: &[StoredSite], cust: usize) -> Result<LaneRow, NoMemory>
     requires { All (λ s. cust < length s.row.lanes) sites.now }
-    ensures { IfOk result (λ column. column ≡ lanes_at sites.now cust) }
+    ensures { IfOk result (λ column. column ≡ column_in sites.now cust) }
 {
     let mut column = LaneRow::with_capacity(alloc, sites.len())?;
     for site in sites {

@@ -30,7 +30,7 @@ pub returns-then-not-is_above-clause-tried : goal.returns-then-not-is_above-clau
 returns-then-not-is_above-clause-tried c =
     let here = present_of c.self.inside in
     let risen = has_ascended c.args.boxed.now.instance c.args.boxed.now.path c.args.self.now (present_of c.self.inside) c.self.view_is c.requires.risen in
-    subst (λ (p : Present). IsTried c.args.boxed.now.instance c.args.boxed.now.path p here) c.self.view_is (record { same_prices = record { scale = refl; count_price = refl; prices = refl }; risen = risen })
+    subst (λ (p : Present). IsTried c.args.boxed.now.instance c.args.boxed.now.path p here) c.self.view_is (record { same_prices = record { form = refl; scale = refl; count_price = refl; prices = refl }; risen = risen })
 
 pub returns-then-not-is_above-clause-trial : goal.returns-then-not-is_above-clause-trial
 returns-then-not-is_above-clause-trial c =

@@ -1,5 +1,4 @@
-use Rattle.std.proofs.Common.{◌≡◌, List, ℕ, insert, remove, refl, sym, ap, ◌∙◌, arith}
-use Rattle.indexmap.specs.IndexSet.{insert_key, move_index}
+use Rattle.std.proofs.Common.{List, ℕ, remove, refl, sym, ap, ◌∙◌, arith}
 use Rattle.instance_store.specs.declared.instance.Instance.TheInside.{Inside}
 use Rattle.instance_store.proofs.StoredLemmas.{IsStored-copy}
 use Rattle.instance_store.proofs.ChangeLemmas.{stored-with_site_in, IsStored-with_site_in}

@@ -2,7 +2,7 @@ use Rattle.std.proofs.Common.{refl}
 use Rattle.location_terms.specs.Instance.{Site}
 use Rattle.instance_store.specs.declared.instance.StoredSite.{StoredSite}
 use Rattle.instance_store.proofs.SiteLemmas.{stored-with_site, IsStored-with_site}
-use Rattle.instance_store.proofs.StoredLemmas.{fixed-small, cap-small}
+use Rattle.instance_store.proofs.StoredLemmas.{cap-small}
 use Rattle.instance_store.proofs.instance.Instance.set_fixed.Goals as goal
 
 pub invariant_of-self : goal.invariant_of-self

@@ -1,7 +1,7 @@
-use Rattle.std.proofs.Common.{◌≡◌, ◌++◌, ◌∷◌, [], length, Option, None, slice_index_or, ◌∙◌, rules, arith}
+use Rattle.std.proofs.Common.{◌≡◌, ◌++◌, ◌∷◌, [], None, slice_index_or, ◌∙◌, rules, arith}
 use Rattle.std.proofs.lemmas.List.{length-map, take_all}
 use Rattle.instance_store.specs.declared.instance.StoredSite.{StoredSite}
-use Rattle.instance_store.specs.Columns.{lanes_at}
+use Rattle.instance_store.specs.Columns.{column_in}
 use Rattle.instance_store.proofs.ColumnChanges.{lanes_at_more}
 use Rattle.instance_store.proofs.instance.changes.column_at.Goals as goal
 
@@ -15,4 +15,4 @@ loop-site-preserved c =
 
 pub returns : goal.returns
 returns c =
-    c.loop-site.invariant ∙ take_all c.loop-site.site-index (lanes_at c.args.sites.now c.args.cust) (omega (arith, c.loop-site-test.false, length-map c.args.sites.now (λ (s : StoredSite). slice_index_or s.row.lanes c.args.cust None)))
+    c.loop-site.invariant ∙ take_all c.loop-site.site-index (column_in c.args.sites.now c.args.cust) (omega (arith, c.loop-site-test.false, length-map c.args.sites.now (λ (s : StoredSite). slice_index_or s.row.lanes c.args.cust None)))

@@ -1,15 +1,15 @@
-use Rattle.std.proofs.Common.{◌≡◌, ◌<◌, ◌≤◌, List, Option, None, ℕ, length, take, All, insert, slice_set, sym, ap, subst, slice_index_or, ◌∙◌, rules, arith}
+use Rattle.std.proofs.Common.{◌≡◌, ◌<◌, ◌≤◌, List, Option, None, ℕ, length, take, All, insert, sym, ap, subst, slice_index_or, ◌∙◌, rules, arith}
 use Rattle.instance_store.specs.declared.instance.StoredSite.{StoredSite}
-use Rattle.instance_store.specs.Columns.{AreWith, AreWithout, with_lane}
+use Rattle.instance_store.specs.Columns.{AreWith, AreWithout, with_lane_at}
 use Rattle.instance_store.proofs.ColumnChanges.{changed_start, changed_more, not_reached, each_longer, taken_back, unchanged}
 use Rattle.instance_store.proofs.instance.changes.put_column.Goals as goal
 
 pub loop-i-init : goal.loop-i-init
-loop-i-init c = changed_start (λ i s. with_lane c.args.place (slice_index_or c.args.lanes.now i None) s) c.args.sites.now
+loop-i-init c = changed_start (λ i s. with_lane_at c.args.place (slice_index_or c.args.lanes.now i None) s) c.args.sites.now
 
 pub insert-requires-clause-place : goal.insert-requires-clause-place
 insert-requires-clause-place c =
-    not_reached (λ (s : StoredSite). c.args.place ≤ length s.row.lanes) c.loop-i.i (λ i s. with_lane c.args.place (slice_index_or c.args.lanes.now i None) s) c.args.sites.now c.loop-i.sites c.index-sites-i.result
+    not_reached (λ (s : StoredSite). c.args.place ≤ length s.row.lanes) c.loop-i.i (λ i s. with_lane_at c.args.place (slice_index_or c.args.lanes.now i None) s) c.args.sites.now c.loop-i.sites c.index-sites-i.result
     c.loop-i.invariant c.loop-i-test.true c.requires.place
 
 pub drop_column-requires-clause-place : goal.drop_column-requires-clause-place
@@ -32,7 +32,7 @@ pub loop-i-preserved : goal.loop-i-preserved
 loop-i-preserved c =
     let here : StoredSite = slice_index_or c.loop-i.sites c.loop-i.i c.index-sites-i.result in
     let inserted : c.insert.new.self ≡ insert here.row.lanes c.args.place c.get.result = search rules in
-    changed_more c.loop-i.i (λ i s. with_lane c.args.place (slice_index_or c.args.lanes.now i None) s) c.args.sites.now c.loop-i.sites c.index-sites-i.result _ c.loop-i.invariant c.loop-i-test.true
+    changed_more c.loop-i.i (λ i s. with_lane_at c.args.place (slice_index_or c.args.lanes.now i None) s) c.args.sites.now c.loop-i.sites c.index-sites-i.result _ c.loop-i.invariant c.loop-i-test.true
     (ap (λ (row : List (Option ℕ)). record here { row = record here.row { lanes = row } }) (inserted ∙ ap (insert here.row.lanes c.args.place) c.get.ensures.exact))
 
 pub returns-clause-put : goal.returns-clause-put
