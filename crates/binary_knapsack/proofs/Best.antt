@@ -58,3 +58,7 @@ best_worth_of_loads cap items =
     let within : All (IsAtMost cap (pos 0) best) (item_sets items) = λ k d h e. (let w = bounds k d h e in omega (arith, ints, w)) in
     let below = loads_at_most cap items cap (pos 0) best within in
     omega (arith, ints, above, below)
+
+-- the empty set fits
+pub best_is_some : (cap : Option ℕ) (items : List Item) → pos 0 ≤ℤ best_worth cap items
+best_is_some cap items = (let is = best_worth_of_loads cap items in omega (arith, ints, is))

@@ -12,8 +12,8 @@ use Rattle.binary_knapsack.proofs.Choices.{reach_cons, reach_of_none}
 use Rattle.binary_knapsack.proofs.Kept.{load_of_paying, load_of_idle, paying_worth, bool_cases}
 
 -- the one choice before any load is looked at
-pub search_begin : (best cap : ℕ) (loads : List Load) (now : List Choice) → now ≡ record { room = cap; worth = 0 } ∷ [] → best ≤ most cap loads → max best (reach loads now) ≡ most cap loads
-search_begin best cap loads now e h =
+pub search_begin : (best total cap : ℕ) (loads : List Load) (now : List Choice) → now ≡ record { room = cap; worth = 0 } ∷ [] → max best (most cap loads) ≡ total → max best (reach loads now) ≡ total
+search_begin best total cap loads now e h =
     let first : Choice = record { room = cap; worth = 0 } in
     omega (arith, h, ap (reach loads) e, reach_cons loads first [], reach_of_none loads)
 
@@ -22,8 +22,9 @@ pub search_end : (best total k : ℕ) (loads : List Load) (now : List Choice) �
 search_end best total k loads now h before = omega (arith, before, ap (λ l. reach l now) (drop_all k loads h))
 
 -- what choices come to is small
-pub reach_small : (best cap k : ℕ) (loads : List Load) (now : List Choice) → max best (reach (drop k loads) now) ≡ most cap loads → sum_by (λ x. x.worth) loads < 2 ^ 110 → reach (drop k loads) now < 2 ^ 126
-reach_small best cap k loads now e h = omega (arith, e, h, most-le_sum loads cap)
+pub reach_small : (best known cap k : ℕ) (loads : List Load) (now : List Choice) → max best (reach (drop k loads) now) ≡ max known (most cap loads) → sum_by (λ x. x.worth) loads < 2 ^ 110 → known < 2 ^ 110
+    → reach (drop k loads) now < 2 ^ 126
+reach_small best known cap k loads now e h small = omega (arith, e, h, small, most-le_sum loads cap)
 
 -- loads are worth no more together than so many of the greatest
 pub kept_small : (cap : Option ℕ) (items : List Item) (m : ℕ) → All (λ x. x.worth ≤ℤ pos m) items → sum_by (λ x. x.worth) (kept cap items) ≤ length items * m

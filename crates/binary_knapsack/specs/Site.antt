@@ -1,4 +1,4 @@
--- Of calls that are yet to come: no public contract cites this page.
+-- For private functions alone: no public contract cites this page.
 -- What a site may collect from whole customers, as a knapsack.
 use Rattle.std.specs.Prelude.{ℕ, List, map}
 use Rattle.location_terms.specs.Instance.{Instance, customer_at}

@@ -1,5 +1,6 @@
 //! The memory of a search, and what is found in it.
-ghost use Rattle.std.specs.Prelude.{◌≡◌, ◌≤◌, ◌<◌, ◌^◌, length, All, IfOk, ◌≤ℤ◌, IsTrue, pos, sum_by};
+ghost use Rattle.std.specs.Prelude.{◌≡◌, ◌≤◌, ◌<◌, ◌^◌, length, All, IfOk, ◌≤ℤ◌, IsTrue, max, pos, sum_by};
+ghost use Rattle.std.specs.Int.{int_max};
 ghost use Rattle.binary_knapsack.specs.Knapsack.{best_worth};
 ghost use Rattle.binary_knapsack.specs.Loads.{most, most_in};
 
@@ -48,31 +49,62 @@ impl KnapsackRoom {
         ensures low { IfOk result (λ worth. pos 0 ≤ℤ worth) }
         ensures high { IfOk result (λ worth. worth ≤ℤ MAX_TOTAL) }
     {
+        let worth = self.best_worth_from(items, cap, 0)?;
+        Ok(worth)
+    }
+
+    /// The same, or `least` where that is greater. The search is the shorter the greater `least` is, and
+    /// little more than a look at the items where they couldn't come to it in part.
+    pub fn best_worth_from(
+        &mut self,
+        items: &[Item],
+        cap: Option<u64>,
+        least: i128,
+    ) -> Result<i128, NoMemory>
+        requires count { length items.now ≤ MAX_ITEMS }
+        requires worths { All (λ x. x.worth ≤ℤ MAX_WORTH) items.now }
+        requires least { least ≤ℤ MAX_TOTAL }
+        ensures exact { IfOk result (λ worth. worth ≡ int_max least (best_worth cap items.now)) }
+        ensures low { IfOk result (λ worth. pos 0 ≤ℤ worth) }
+        ensures high { IfOk result (λ worth. worth ≤ℤ MAX_TOTAL) }
+    {
         keep(items, cap, &mut self.loads)?;
-        let worth = self.best_of_loads(cap)?;
+        let worth = self.best_of_loads(cap, known_worth(least))?;
         Ok(worth as i128)
     }
 
-    fn best_of_loads(&mut self, cap: Option<u64>) -> Result<u128, NoMemory>
-        requires { sum_by (λ x. x.worth) self.old.loads.items < 2 ^ 110 }
-        ensures { IfOk result (λ worth. worth ≡ most_in cap self.old.loads.items) }
+    // The greatest worth of the loads within the capacity, or what is known where that is greater.
+    fn best_of_loads(&mut self, cap: Option<u64>, known: u128) -> Result<u128, NoMemory>
+        requires sum { sum_by (λ x. x.worth) self.old.loads.items < 2 ^ 110 }
+        requires known { known < 2 ^ 110 }
+        ensures { IfOk result (λ worth. worth ≡ max known (most_in cap self.old.loads.items)) }
     {
         match cap {
-            None => Ok(total_worth(&self.loads)),
-            Some(cap) => self.best_within(cap),
+            None => Ok(total_worth(&self.loads).max(known)),
+            Some(cap) => self.best_within(cap, known),
         }
     }
 
-    fn best_within(&mut self, cap: u64) -> Result<u128, NoMemory>
-        requires { sum_by (λ x. x.worth) self.old.loads.items < 2 ^ 110 }
-        ensures { IfOk result (λ worth. worth ≡ most cap self.old.loads.items) }
+    fn best_within(&mut self, cap: u64, known: u128) -> Result<u128, NoMemory>
+        requires sum { sum_by (λ x. x.worth) self.old.loads.items < 2 ^ 110 }
+        requires known { known < 2 ^ 110 }
+        ensures { IfOk result (λ worth. worth ≡ max known (most cap self.old.loads.items)) }
     {
         if fit_together(&self.loads, cap) {
-            return Ok(total_worth(&self.loads));
+            return Ok(total_worth(&self.loads).max(known));
         }
-        let worth = search(&mut self.loads, cap, &mut self.now, &mut self.next)?;
+        let worth = search(&mut self.loads, cap, known, &mut self.now, &mut self.next)?;
         Ok(worth)
     }
+}
+
+// What is reached before any item is looked at: `least`, or the worth of the empty set.
+fn known_worth(least: i128) -> u128
+    requires { least ≤ℤ MAX_TOTAL }
+    ensures exact { pos result ≡ int_max least (pos 0) }
+    ensures small { result < 2 ^ 110 }
+{
+    if least > 0 { least.unsigned_abs() } else { 0 }
 }
 
 fn fit_together(loads: &[Load], cap: u64) -> bool

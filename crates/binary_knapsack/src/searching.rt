@@ -10,18 +10,20 @@ use instance_store::NoMemory;
 use std::cmp::Ordering;
 use std::mem;
 
-// The greatest worth of loads that weigh at most `cap` together.
+// The greatest worth of loads that weigh at most `cap` together, or what is known where that is greater.
 pub(crate) fn search(
     loads: &mut Vec<Load>,
     cap: u64,
+    known: u128,
     now: &mut Vec<Choice>,
     next: &mut Vec<Choice>,
 ) -> Result<u128, NoMemory>
-    requires { sum_by (λ x. x.worth) loads.old.items < 2 ^ 110 }
-    ensures { IfOk result (λ worth. worth ≡ most cap loads.old.items) }
+    requires sum { sum_by (λ x. x.worth) loads.old.items < 2 ^ 110 }
+    requires known { known < 2 ^ 110 }
+    ensures { IfOk result (λ worth. worth ≡ max known (most cap loads.old.items)) }
 {
     loads.sort_unstable_by(|a, b| by_rate(a, b));
-    let worth = search_sorted(loads, cap, now, next)?;
+    let worth = search_sorted(loads, cap, known, now, next)?;
     Ok(worth)
 }
 
@@ -36,13 +38,15 @@ fn by_rate(a: &Load, b: &Load) -> Ordering {
 fn search_sorted(
     loads: &[Load],
     cap: u64,
+    known: u128,
     now: &mut Vec<Choice>,
     next: &mut Vec<Choice>,
 ) -> Result<u128, NoMemory>
-    requires { sum_by (λ x. x.worth) loads.now < 2 ^ 110 }
-    ensures { IfOk result (λ worth. worth ≡ most cap loads.now) }
+    requires sum { sum_by (λ x. x.worth) loads.now < 2 ^ 110 }
+    requires known { known < 2 ^ 110 }
+    ensures { IfOk result (λ worth. worth ≡ max known (most cap loads.now)) }
 {
-    let mut limit = first_limit(loads, cap);
+    let mut limit = first_limit(loads, cap, known);
     now.clear();
     now.push(Choice {
         room: cap,
@@ -71,14 +75,14 @@ fn raised(reached: u128, choices: &[Choice]) -> u128
 }
 
 // The limit before any load is looked at.
-fn first_limit(loads: &[Load], cap: u64) -> Limit
+fn first_limit(loads: &[Load], cap: u64, known: u128) -> Limit
     requires { sum_by (λ x. x.worth) loads.now < 2 ^ 110 }
-    ensures best { result.best ≤ most cap loads.now }
+    ensures best { max result.best (most cap loads.now) ≡ max known (most cap loads.now) }
     ensures gain { result.gain ≡ sum_by (excess result.price) loads.now }
 {
     let price = break_rate(loads, cap);
     Limit {
-        best: packed(loads, cap),
+        best: packed(loads, cap).max(known),
         gain: total_excess(price, loads),
         price,
     }

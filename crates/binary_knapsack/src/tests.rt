@@ -29,8 +29,8 @@ fn item(weight: u32, worth: i32) -> Item
 }
 
 fn items(alloc: Global, pairs: &[(u32, i32)]) -> Result<Vec<Item>, NoMemory>
-    requires { length pairs.now ≤ 10 }
-    ensures count { IfOk result (λ items. length items.items ≤ 10) }
+    requires { length pairs.now ≤ 200 }
+    ensures count { IfOk result (λ items. length items.items ≤ 200) }
     ensures small { IfOk result (λ items. All (λ x. x.worth ≤ℤ MAX_WORTH) items.items) }
 {
     let mut items = Vec::new(alloc);
@@ -41,7 +41,7 @@ fn items(alloc: Global, pairs: &[(u32, i32)]) -> Result<Vec<Item>, NoMemory>
 }
 
 fn best(alloc: Global, pairs: &[(u32, i32)], cap: Option<u64>) -> Result<i128, NoMemory>
-    requires { length pairs.now ≤ 10 }
+    requires { length pairs.now ≤ 200 }
 {
     let items = items(alloc, pairs)?;
     KnapsackRoom::new(alloc).best_worth(&items, cap)
@@ -73,5 +73,56 @@ fn takes_all_that_pay_without_a_capacity(rt: HostRuntime) -> Result<(), Fail> {
     assert!(rt; best(rt.alloc(), &ITEMS, None)? == 79);
     assert!(rt; best(rt.alloc(), &[], None)? == 0);
     assert!(rt; best(rt.alloc(), &[(4, -1), (9, 3)], Some(8))? == 0);
+    Ok(())
+}
+
+// Pairs without an order: weights below `most`, worths from -50 on.
+fn fill(pairs: &mut [(u32, i32)], most: u32)
+    requires { 1 ≤ most }
+{
+    let mut drawn: u32 = 1;
+    for i in 0..pairs.len() {
+        drawn = drawn.wrapping_mul(1_664_525).wrapping_add(1_013_904_223);
+        let worth = (drawn >> 8) % 997;
+        pairs[i] = ((drawn >> 16) % most, (worth as i32).wrapping_sub(50));
+    }
+}
+
+// The greatest worth by a table over what is left of the capacity, item by item.
+fn by_table(alloc: Global, pairs: &[(u32, i32)], cap: u16) -> Result<i32, NoMemory> {
+    let mut table = vec![in alloc; 0; usize::from(cap) + 1]?;
+    for (weight, worth) in pairs {
+        add_item(&mut table, *weight as usize, *worth);
+    }
+    Ok(table.last().copied().unwrap_or(0))
+}
+
+fn add_item(table: &mut [i32], weight: usize, worth: i32) {
+    for taken in 0..table.len() {
+        let room = table.len() - 1 - taken;
+        if weight <= room {
+            let with = table[room - weight].wrapping_add(worth);
+            if with > table[room] {
+                table[room] = with;
+            }
+        }
+    }
+}
+
+#[test]
+fn is_that_of_all_sets_of_fifteen(rt: HostRuntime) -> Result<(), Fail> {
+    let mut pairs = [(0, 0); 15];
+    fill(&mut pairs, 40);
+    let found = best(rt.alloc(), &pairs, Some(111))?;
+    assert!(rt; found == i128::from(by_sets(&pairs, 111)));
+    Ok(())
+}
+
+#[test]
+fn is_that_of_a_table(rt: HostRuntime) -> Result<(), Fail> {
+    let mut pairs = [(0, 0); 200];
+    fill(&mut pairs, 1_000);
+    let found = best(rt.alloc(), &pairs, Some(3_000))?;
+    assert!(rt; found == i128::from(by_table(rt.alloc(), &pairs, 3_000)?));
     Ok(())
 }

@@ -1,46 +1,21 @@
-use Rattle.std.proofs.Common.{◌≡◌, ℕ, ◌<◌, ◌≤◌, ◌^◌, sym, ap, ◌∙◌, arith, pos, ◌≤ℤ◌, Option, List, length, All}
+use Rattle.std.proofs.Common.{◌≡◌, ℕ, ◌≤◌, ℤ, pos, negsuc, ◌≤ℤ◌, ◌∙◌, arith}
+use Rattle.std.specs.Int.RustNames.{unsigned_abs}
 use mir.Syntax.{w128}
-use mir.Val.{to_z}
-use Rattle.std.proofs.lemmas.Int.{ints, fits_signed_from_abs}
-use Rattle.binary_knapsack.specs.Loads.{Item, Load, most_in, kept}
-use Rattle.binary_knapsack.proofs.Best.{best_worth_of_loads}
-use Rattle.binary_knapsack.proofs.Searches.{kept_small, most_in-le_sum}
+use Rattle.std.specs.Int.{int_max}
+use Rattle.std.proofs.lemmas.Int.{ints, clamps, fits_signed_from_abs, to_z-of_z}
+use Rattle.binary_knapsack.specs.Knapsack.{best_worth}
+use Rattle.binary_knapsack.proofs.Best.{best_is_some}
 use Rattle.binary_knapsack.proofs.room.KnapsackRoom.best_worth.Goals as goal
 
-pub best_of_loads-requires : goal.best_of_loads-requires
-best_of_loads-requires c =
-    let is : c.keep.new.loads.items ≡ kept c.args.cap c.args.items.now = c.in_ok-keep.ensures in
-    let few = c.requires.count in
-    rw is (omega (arith, few, kept_small c.args.cap c.args.items.now 1000000000000000000000000000 c.requires.worths))
-
-pub overflow_cast-result : goal.overflow_cast-result
-overflow_cast-result c =
-    let is : c.keep.new.loads.items ≡ kept c.args.cap c.args.items.now = c.in_ok-keep.ensures in
-    let worth : c.in_ok-worth.worth ≡ most_in c.args.cap (kept c.args.cap c.args.items.now) = rw is at c.in_ok-worth.ensures in
-    let few = c.requires.count in
-    fits_signed_from_abs w128 (pos c.in_ok-worth.worth) (omega (arith, worth, few, most_in-le_sum c.args.cap (kept c.args.cap c.args.items.now), kept_small c.args.cap c.args.items.now 1000000000000000000000000000 c.requires.worths))
-
--- what is found is within the greatest worth of a set
-found_small : (cap : Option ℕ) (items : List Item) (loads : List Load) (worth : ℕ) → loads ≡ kept cap items → worth ≡ most_in cap loads → length items ≤ 1000000
-    → All (λ x. x.worth ≤ℤ pos 1000000000000000000000000000) items → worth ≤ 1000000000000000000000000000000000
-found_small cap items loads worth is found few small =
-    let here : worth ≡ most_in cap (kept cap items) = rw is at found in
-    omega (arith, here, few, most_in-le_sum cap (kept cap items), kept_small cap items 1000000000000000000000000000 small)
+small_size : (z : ℤ) (n : ℕ) → pos 0 ≤ℤ z → z ≤ℤ pos n → unsigned_abs z ≤ n
+small_size (pos m) n low high = omega (arith, ints, high)
+small_size (negsuc m) n low high = omega (arith, ints, low)
 
 pub returns-clause-exact : goal.returns-clause-exact
 returns-clause-exact c =
-    let is : c.keep.new.loads.items ≡ kept c.args.cap c.args.items.now = c.in_ok-keep.ensures in
-    let worth : c.in_ok-worth.worth ≡ most_in c.args.cap (kept c.args.cap c.args.items.now) = rw is at c.in_ok-worth.ensures in
-    let small = found_small c.args.cap c.args.items.now c.keep.new.loads.items c.in_ok-worth.worth c.in_ok-keep.ensures c.in_ok-worth.ensures c.requires.count c.requires.worths in
-    let cast : to_z w128 c.in_ok-worth.worth ≡ pos c.in_ok-worth.worth = omega (arith, ints, small) in
-    cast ∙ ap (λ (n : ℕ). pos n) worth ∙ sym (best_worth_of_loads c.args.cap c.args.items.now)
-
-pub returns-clause-low : goal.returns-clause-low
-returns-clause-low c =
-    let small = found_small c.args.cap c.args.items.now c.keep.new.loads.items c.in_ok-worth.worth c.in_ok-keep.ensures c.in_ok-worth.ensures c.requires.count c.requires.worths in
-    omega (arith, ints, small)
-
-pub returns-clause-high : goal.returns-clause-high
-returns-clause-high c =
-    let small = found_small c.args.cap c.args.items.now c.keep.new.loads.items c.in_ok-worth.worth c.in_ok-keep.ensures c.in_ok-worth.ensures c.requires.count c.requires.worths in
-    omega (arith, ints, small)
+    let worth = c.in_ok-worth.worth in
+    let best = best_worth c.args.cap c.args.items.now in
+    let some : pos 0 ≤ℤ best = best_is_some c.args.cap c.args.items.now in
+    let is : worth ≡ best = (let found : worth ≡ int_max (pos 0) best = c.in_ok-worth.ensures.exact in omega (arith, ints, clamps, found, some)) in
+    let size = small_size worth 1000000000000000000000000000000000 c.in_ok-worth.ensures.low c.in_ok-worth.ensures.high in
+    to_z-of_z w128 worth (fits_signed_from_abs w128 worth (omega (arith, size))) ∙ is

@@ -1,0 +1,4 @@
+mod Divisors
+mod Gathered
+mod Surplus
+mod Slacks

@@ -1,0 +1,2 @@
+pub mod LeafFault
+pub mod Gathered
