@@ -11,7 +11,7 @@ use Rattle.branch_tree.specs.declared.entry.Entry.TheVariants.{End, Branch}
 use Rattle.branch_tree.specs.Preorder.{flat, tree_of, tree_of-flat, IsSound, IsStored}
 use Rattle.location_terms.specs.Instance.{Instance, site_ids, customer_ids}
 use Rattle.location_terms.specs.Bound.{Duals}
-use Rattle.location_terms.specs.Fit.{DualsFit}
+use Rattle.location_terms.specs.Leaf.{LeafFits}
 use Rattle.location_terms.proofs.Places.{length-site_ids, length-customer_ids}
 use Rattle.branch_tree.specs.Made.{nodes_shown, entry_shown, leaf_of, forked}
 use Rattle.branch_tree.proofs.Flat.{length-flat, leaves_and_splits, nodes_shown-flat, splits_sound, leaves_sound}
@@ -75,9 +75,9 @@ stored_shown_at {S} {C} {n} stored k x within e =
     ap (λ xs. slice_get xs k) (stored_shown stored) ∙ slice_get-map entry_shown n k ∙ ap (option_map entry_shown) (slice_get-get_or n k x within ∙ ap Some (sym e))
 
 -- one leaf on the instance's ids
-pub leaf_stored : (I : Instance) (S C : List ℕ) (d : Duals) (n : List Entry) → DualsFit I d → S ≡ site_ids I → C ≡ customer_ids I → n ≡ End d ∷ [] → IsStored S C n
+pub leaf_stored : (I : Instance) (S C : List ℕ) (d : Duals) (n : List Entry) → LeafFits I d → S ≡ site_ids I → C ≡ customer_ids I → n ≡ End d ∷ [] → IsStored S C n
 leaf_stored I S C d n fit sites customers e =
-    stored_end S C d n e (fit.of_instance.sites ∙ sym (ap length sites ∙ length-site_ids I), fit.of_instance.customers ∙ sym (ap length customers ∙ length-customer_ids I), fit.in_limits)
+    stored_end S C d n e (fit.numbers.of_instance.sites ∙ sym (ap length sites ∙ length-site_ids I), fit.numbers.of_instance.customers ∙ sym (ap length customers ∙ length-customer_ids I), fit.numbers.in_limits, fit.prices)
 
 pub leaf_seen : (I : Instance) (S C : List ℕ) (d : Duals) (n : List Entry) → S ≡ site_ids I → C ≡ customer_ids I → n ≡ End d ∷ [] → seen S C n ≡ leaf_of I d
 leaf_seen I S C d n sites customers e =

@@ -1,6 +1,6 @@
 -- A tree as the list of its nodes in preorder, and back.
-use Rattle.std.specs.Prelude.{◌≡◌, ℕ, ◌^◌, ◌<◌, ◌⊎◌, List, [], ◌∷◌, ◌++◌, length, All, ℤ, pos, refl}
-use Rattle.std.specs.Coded.{Coded, code_by, coded_ℕ, coded_ℤ, coded_list, coded×, coded⊎}
+use Rattle.std.specs.Prelude.{◌≡◌, ℕ, Bool, true, false, ◌^◌, ◌<◌, ◌⊎◌, List, [], ◌∷◌, ◌++◌, length, All, ℤ, pos, refl}
+use Rattle.std.specs.Coded.{Coded, code_by, coded_ℕ, coded_ℤ, coded_bool, coded_list, coded×, coded⊎}
 use Rattle.std.proofs.Common.{sym, ap, ◌∙◌, inl, inr}
 use Rattle.std.proofs.lemmas.List.{append_assoc, append-nil}
 use Rattle.branch_tree.specs.declared.entry.Entry.{Entry}
@@ -8,6 +8,8 @@ use Rattle.branch_tree.specs.declared.entry.Entry.TheVariants.{End, Branch}
 use Rattle.location_terms.specs.declared.split.Split.{Split}
 use Rattle.location_terms.specs.declared.split.Split.TheVariants.{Site, Lane}
 use Rattle.location_terms.specs.Split.{IsSplitAmong}
+use Rattle.location_terms.specs.declared.form.LeafForm.{LeafForm}
+use Rattle.location_terms.specs.declared.form.LeafForm.TheVariants.{Prices, Whole}
 use Rattle.location_terms.specs.Bound.{Duals}
 use Rattle.location_terms.specs.Tree.{Node, Leaf, Fork, Tree, HasLists}
 
@@ -29,7 +31,7 @@ forest (End d ∷ es) = Leaf d ∷ forest es
 forest (Branch split ∷ es) = joined split (forest es)
 
 abbrev pub no_duals : Duals
-no_duals = record { q = 0; nu = pos 0; v = []; u = [] }
+no_duals = record { form = Prices; q = 0; nu = pos 0; v = []; u = [] }
 
 abbrev pub first_tree : List Node → Node
 first_tree [] = Leaf no_duals
@@ -63,9 +65,25 @@ split_from-parts (Lane s c) = refl
 abbrev pub split_code : Coded Split
 split_code = code_by (ℕ ⊎ (ℕ × ℕ)) (coded⊎ coded_ℕ (coded× coded_ℕ coded_ℕ)) split_parts split_from split_from-parts
 
+-- a form is stored as whether it is that of whole knapsacks
+abbrev pub is_whole : LeafForm → Bool
+is_whole Prices = false
+is_whole Whole = true
+
+abbrev pub form_from : Bool → LeafForm
+form_from false = Prices
+form_from true = Whole
+
+pub form_from-is_whole : (form : LeafForm) → form_from (is_whole form) ≡ form
+form_from-is_whole Prices = refl
+form_from-is_whole Whole = refl
+
+abbrev pub form_code : Coded LeafForm
+form_code = code_by Bool coded_bool is_whole form_from form_from-is_whole
+
 -- the code by which a struct can have duals as a part of its value
 abbrev pub duals_code : Coded Duals
-duals_code = code_by (ℕ × (ℤ × (List ℤ × List ℕ))) (coded× coded_ℕ (coded× coded_ℤ (coded× (coded_list coded_ℤ) (coded_list coded_ℕ)))) (λ d. (d.q, (d.nu, (d.v, d.u)))) (λ p. record { q = p.0; nu = p.1.0; v = p.1.1.0; u = p.1.1.1 }) (λ _. refl)
+duals_code = code_by (LeafForm × (ℕ × (ℤ × (List ℤ × List ℕ)))) (coded× form_code (coded× coded_ℕ (coded× coded_ℤ (coded× (coded_list coded_ℤ) (coded_list coded_ℕ))))) (λ d. (d.form, (d.q, (d.nu, (d.v, d.u))))) (λ p. record { form = p.0; q = p.1.0; nu = p.1.1.0; v = p.1.1.1.0; u = p.1.1.1.1 }) (λ _. refl)
 
 -- an entry is stored as its duals or its split
 abbrev pub entry_parts : Entry → Duals ⊎ Split

@@ -8,7 +8,8 @@ use Rattle.location_terms.specs.declared.decision.Decision.TheVariants.{Opened, 
 use Rattle.location_terms.specs.Instance.{Instance}
 use Rattle.location_terms.specs.Box.{Path}
 use Rattle.location_terms.specs.Split.{first_step}
-use Rattle.location_terms.specs.Bound.{Duals, bound_of}
+use Rattle.location_terms.specs.Bound.{Duals}
+use Rattle.location_terms.specs.Leaf.{leaf_bound}
 use Rattle.location_terms.specs.Tree.{low_end}
 use Rattle.dual_value.specs.Prepared.{decision_code}
 use Rattle.branch_tree.specs.Preorder.{duals_code}
@@ -81,7 +82,7 @@ leaves_code = coded_list (coded× (coded_list decision_code) duals_code)
 
 -- the lesser of the number and of the low end of a leaf with a scale
 abbrev pub lowered : Instance → ℕ → Path × Duals → ℕ
-lowered I least l = if nat_lt 0 l.1.q then min least (low_end (bound_of I l.0 l.1) l.1.q) else least
+lowered I least l = if nat_lt 0 l.1.q then min least (low_end (leaf_bound I l.0 l.1) l.1.q) else least
 
 abbrev pub lowered_all : Instance → ℕ → List (Path × Duals) → ℕ
 lowered_all I least leaves = fold (lowered I) least leaves

@@ -1,32 +1,33 @@
 //! Whether leaves close their boxes, and the low end that they show.
 ghost use Rattle.std.specs.Prelude.{◌≡◌, ◌≤◌, ◌↔◌, All, IfOk, IsTrue, length, unsigned_abs};
-ghost use Rattle.location_terms.specs.Fit.{Closes, DualsFit};
+ghost use Rattle.location_terms.specs.Leaf.{LeafCloses, LeafFits};
 ghost use Rattle.location_terms.specs.Tree.{HasLists, low_end};
 ghost use Rattle.location_terms.specs.declared.limits.TheConstants.{MAX_COST};
 ghost use Rattle.dual_value.specs.declared.bounds.TheConstants.{MAX_BOUND};
 ghost use Rattle.branch_tree.specs.Walk.{lowered, lowered_all};
 
 use crate::LeafWalk;
-use dual_value::{BoxBounds, Duals, Path, closes, fits};
+use dual_value::{Duals, Path};
 use instance_store::{Instance, NoMemory};
+use leaf_bounds::LeafBounds;
 use location_terms::MAX_COST;
 
 // Whether each leaf closes.
 pub(crate) fn all_close(
     walk: LeafWalk<'_>,
     inst: &Instance,
-    bounds: &mut BoxBounds<'_>,
+    bounds: &mut LeafBounds<'_>,
     target: Option<u64>,
 ) -> Result<bool, NoMemory>
     requires bounds { bounds.old ≡ inst.now }
     requires lists { All (λ l. HasLists (length inst.now.sites) (length inst.now.customers) l.1) walk }
     ensures kept { bounds.new ≡ bounds.old }
-    ensures exact { IfOk result (λ yes. IsTrue yes ↔ All (λ l. Closes inst.now l.0 l.1 target) walk.entry) }
+    ensures exact { IfOk result (λ yes. IsTrue yes ↔ All (λ l. LeafCloses inst.now l.0 l.1 target) walk.entry) }
 {
     let mut walk = walk;
     while !walk.is_done() {
         let (path, duals) = walk.leaf();
-        if !closes_box(inst, bounds, path, duals, target) {
+        if !closes_box(inst, bounds, path, duals, target)? {
             return Ok(false);
         }
         walk.pass()?;
@@ -35,8 +36,8 @@ pub(crate) fn all_close(
 }
 
 // The least low end of the leaves with a scale, and `MAX_COST` where there is none.
-pub(crate) fn least_low(walk: LeafWalk<'_>, bounds: &mut BoxBounds<'_>) -> Result<u64, NoMemory>
-    requires { All (λ l. DualsFit bounds.old l.1) walk }
+pub(crate) fn least_low(walk: LeafWalk<'_>, bounds: &mut LeafBounds<'_>) -> Result<u64, NoMemory>
+    requires { All (λ l. LeafFits bounds.old l.1) walk }
     ensures kept { bounds.new ≡ bounds.old }
     ensures exact { IfOk result (λ low. low ≡ lowered_all bounds.old MAX_COST walk.entry) }
 {
@@ -44,7 +45,7 @@ pub(crate) fn least_low(walk: LeafWalk<'_>, bounds: &mut BoxBounds<'_>) -> Resul
     let mut least = MAX_COST;
     while !walk.is_done() {
         let (path, duals) = walk.leaf();
-        least = lowered(bounds, path, duals, least);
+        least = lowered(bounds, path, duals, least)?;
         walk.pass()?;
     }
     Ok(least)
@@ -53,30 +54,39 @@ pub(crate) fn least_low(walk: LeafWalk<'_>, bounds: &mut BoxBounds<'_>) -> Resul
 // Whether the duals fit and their bound closes the box.
 fn closes_box(
     inst: &Instance,
-    bounds: &mut BoxBounds<'_>,
+    bounds: &mut LeafBounds<'_>,
     path: &Path,
     duals: &Duals,
     target: Option<u64>,
-) -> bool
+) -> Result<bool, NoMemory>
     requires bounds { bounds.old ≡ inst.now }
     requires customers { length duals.now.v ≡ length inst.now.customers }
     requires sites { length duals.now.u ≡ length inst.now.sites }
     ensures kept { bounds.new ≡ bounds.old }
-    ensures exact { IsTrue result ↔ Closes inst.now path.now duals.now target }
+    ensures exact { IfOk result (λ yes. IsTrue yes ↔ LeafCloses inst.now path.now duals.now target) }
 {
-    fits(duals, inst).is_ok() && closes(bounds.bound(path, duals), duals.q(), target)
+    if bounds.fits(duals).is_err() {
+        return Ok(false);
+    }
+    bounds.closes(path, duals, target)
 }
 
 // The lesser of the number and of the low end that the duals show, where they have a scale.
-fn lowered(bounds: &mut BoxBounds<'_>, path: &Path, duals: &Duals, least: u64) -> u64
-    requires { DualsFit bounds.old duals.now }
+fn lowered(
+    bounds: &mut LeafBounds<'_>,
+    path: &Path,
+    duals: &Duals,
+    least: u64,
+) -> Result<u64, NoMemory>
+    requires { LeafFits bounds.old duals.now }
     ensures kept { bounds.new ≡ bounds.old }
-    ensures exact { result ≡ lowered bounds.old least (path.now, duals.now) }
+    ensures exact { IfOk result (λ low. low ≡ lowered bounds.old least (path.now, duals.now)) }
 {
     if duals.q() == 0 {
-        return least;
+        return Ok(least);
     }
-    least.min(low_end(bounds.bound(path, duals), duals.q()))
+    let bound = bounds.bound(path, duals)?;
+    Ok(least.min(low_end(bound, duals.q())))
 }
 
 // The least whole number that is at least `bound / q`, 0 where that is below 0, at most `MAX_COST`.

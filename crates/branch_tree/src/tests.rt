@@ -1,12 +1,12 @@
 ghost use Rattle.std.specs.Prelude.{◌≡◌, ◌<◌, Contains, IfOk};
 ghost use Rattle.location_terms.specs.Instance.{site_ids};
-ghost use Rattle.location_terms.specs.Fit.{DualsFit};
+ghost use Rattle.location_terms.specs.Leaf.{LeafFits};
 ghost use Rattle.location_terms.specs.Tree.{StandsOn, nodes_of};
 
 use super::*;
-use dual_value::{BoxBounds, fits};
 use example_instances::ring;
 use instance_store::{Instance, NoMemory};
+use leaf_bounds::LeafBounds;
 use location_terms::SiteId;
 use std::alloc::Global;
 use std::test::Fail;
@@ -17,7 +17,7 @@ const OPENED: [i128; 3] = [0, 0, 2_000_000];
 
 // Duals of scale 1, with these values of the customers and no other price, which fit.
 fn duals(alloc: Global, inst: &Instance, v: [i128; 3]) -> Result<Duals, Fail>
-    ensures { IfOk result (DualsFit inst.now) }
+    ensures { IfOk result (LeafFits inst.now) }
 {
     let values = Vec::from_array(alloc, v)?;
     let prices = Vec::from_array(alloc, [0; 3])?;
@@ -25,7 +25,7 @@ fn duals(alloc: Global, inst: &Instance, v: [i128; 3]) -> Result<Duals, Fail>
     if inst.custs() != duals.customers() || inst.sites() != duals.sites() {
         return Err(Fail::new("an instance of another size"));
     }
-    fits(&duals, inst)?;
+    LeafBounds::of(alloc, inst).fits(&duals)?;
     Ok(duals)
 }
 
@@ -49,8 +49,8 @@ fn forked(
     opened: Duals,
 ) -> Result<Tree, NoMemory>
     requires site { Contains (site_ids inst.now) site }
-    requires closed { DualsFit inst.now closed }
-    requires opened { DualsFit inst.now opened }
+    requires closed { LeafFits inst.now closed }
+    requires opened { LeafFits inst.now opened }
     ensures stands { IfOk result (λ t. StandsOn t inst.now) }
     ensures nodes { IfOk result (λ t. nodes_of t ≡ 3) }
 {
@@ -68,8 +68,8 @@ fn built(
     opened: Duals,
 ) -> Result<Tree, NoMemory>
     requires site { Contains (site_ids inst.now) site }
-    requires closed { DualsFit inst.now closed }
-    requires opened { DualsFit inst.now opened }
+    requires closed { LeafFits inst.now closed }
+    requires opened { LeafFits inst.now opened }
     ensures stands { IfOk result (λ t. StandsOn t inst.now) }
 {
     let mut builder = Builder::on(alloc, inst)?;
@@ -127,7 +127,7 @@ fn walks(tree: &Tree) -> Result<bool, NoMemory> {
 fn closes_up_to_4(alloc: Global, tree: &Tree, inst: &Instance) -> Result<bool, NoMemory>
     requires { StandsOn tree.now inst.now }
 {
-    let mut bounds = BoxBounds::of(alloc, inst);
+    let mut bounds = LeafBounds::of(alloc, inst);
     Ok(
         tree.accepts(inst, Some(4_000_000))?
             && !tree.accepts_by(inst, &mut bounds, Some(4_000_001))?
@@ -136,7 +136,7 @@ fn closes_up_to_4(alloc: Global, tree: &Tree, inst: &Instance) -> Result<bool, N
 }
 
 // Whether the tree shows that no plan costs less than 4 units.
-fn shows_4(tree: &Tree, inst: &Instance, bounds: &mut BoxBounds<'_>) -> Result<bool, NoMemory>
+fn shows_4(tree: &Tree, inst: &Instance, bounds: &mut LeafBounds<'_>) -> Result<bool, NoMemory>
     requires stands { StandsOn tree.now inst.now }
     requires bounds { bounds.old ≡ inst.now }
 {
@@ -203,8 +203,8 @@ fn grown<'a>(
     opened: Duals,
 ) -> Result<(bool, Growth<'a>), NoMemory>
     requires site { Contains (site_ids inst.now) site }
-    requires closed { DualsFit inst.now closed }
-    requires opened { DualsFit inst.now opened }
+    requires closed { LeafFits inst.now closed }
+    requires opened { LeafFits inst.now opened }
     ensures done { IfOk result (λ r. r.1.left ≡ 0) }
     ensures nodes { IfOk result (λ r. nodes_of r.1.tree ≡ 3) }
     ensures stands { IfOk result (λ r. StandsOn r.1.tree inst.now) }
@@ -240,8 +240,8 @@ fn renews(
     requires site { Contains (site_ids inst.now) site }
     requires stands { StandsOn tree inst.now }
     requires nodes { nodes_of tree ≡ 3 }
-    requires closed { DualsFit inst.now closed }
-    requires opened { DualsFit inst.now opened }
+    requires closed { LeafFits inst.now closed }
+    requires opened { LeafFits inst.now opened }
 {
     let renewal = at_second(tree)?;
     if renewal.is_done() {

@@ -3,8 +3,8 @@ ghost use Rattle.std.specs.Prelude.{[], ◌∷◌, ◌++◌, ◌≡◌, ◌+◌,
 ghost use Rattle.location_terms.specs.Instance.{site_ids, customer_ids};
 ghost use Rattle.location_terms.specs.Optimal.{IsLowEnd, IsImpossible};
 ghost use Rattle.location_terms.specs.Split.{IsSplitAmong};
-ghost use Rattle.location_terms.specs.Bound.{bound_of};
-ghost use Rattle.location_terms.specs.Fit.{DualsFit, BoundCloses};
+ghost use Rattle.location_terms.specs.Fit.{BoundCloses};
+ghost use Rattle.location_terms.specs.Leaf.{leaf_bound, LeafFits};
 ghost use Rattle.location_terms.specs.Tree.{IsTree, StandsOn, AllClose, leaves_of, low_of, nodes_of};
 ghost use Rattle.dual_value.specs.Zeros.{zeros};
 ghost use Rattle.branch_tree.specs.Leaf.{replaced_in};
@@ -16,8 +16,9 @@ use crate::bounds::{all_close, least_low};
 use crate::entry::Entry;
 use crate::leaves::{depth_after, leaf_place, path_after, replace_at, step_after};
 use crate::{LeafWalk, NodeKind};
-use dual_value::{BoxBounds, Decision, Duals, Path};
+use dual_value::{Decision, Duals, Path};
 use instance_store::{Instance, NoMemory};
+use leaf_bounds::LeafBounds;
 use location_terms::{CustId, SiteId, Split};
 use std::alloc::Global;
 use std::marker::Model;
@@ -56,7 +57,7 @@ impl Tree {
 
     /// One leaf with these duals. It fails only where memory runs out.
     pub fn leaf(alloc: Global, inst: &Instance, duals: Duals) -> Result<Tree, NoMemory>
-        requires { DualsFit inst.now duals }
+        requires { LeafFits inst.now duals }
         ensures { IfOk result (λ t. t ≡ leaf_of inst.now duals) }
     {
         let nodes = ended(alloc, duals)?;
@@ -214,15 +215,15 @@ impl Tree {
         ensures low_end { IfOk result (λ yes. IsTrue yes → IfSome target (IsLowEnd inst.now)) }
         ensures impossible { IfOk result (λ yes. IsTrue yes → IfNone target (IsImpossible inst.now)) }
     {
-        let mut bounds = BoxBounds::of(*self.nodes.allocator(), inst);
+        let mut bounds = LeafBounds::of(*self.nodes.allocator(), inst);
         self.accepts_by(inst, &mut bounds, target)
     }
 
-    /// The same by bounds that are lent, those of boxes of the instance.
+    /// The same by bounds that are lent, those of leaves of the instance.
     pub fn accepts_by(
         &self,
         inst: &Instance,
-        bounds: &mut BoxBounds<'_>,
+        bounds: &mut LeafBounds<'_>,
         target: Option<u64>,
     ) -> Result<bool, NoMemory>
         requires stands { StandsOn self.now inst.now }
@@ -242,21 +243,21 @@ impl Tree {
     /// has a scale. Where the leaves of scale 0 close, no feasible plan costs less. It fails only where
     /// memory runs out.
     pub fn low(&self, inst: &Instance) -> Result<u64, NoMemory>
-        requires { All (λ l. DualsFit inst.now l.1) (leaves_of self.now) }
+        requires { All (λ l. LeafFits inst.now l.1) (leaves_of self.now) }
         ensures exact { IfOk result (λ low. low ≡ low_of inst.now self.now) }
-        ensures low_end { All (λ l. l.1.q ≡ 0 → BoundCloses (bound_of inst.now l.0 l.1) 0 None) (leaves_of self.now) → IfOk result (IsLowEnd inst.now) }
+        ensures low_end { All (λ l. l.1.q ≡ 0 → BoundCloses (leaf_bound inst.now l.0 l.1) 0 None) (leaves_of self.now) → IfOk result (IsLowEnd inst.now) }
     {
-        let mut bounds = BoxBounds::of(*self.nodes.allocator(), inst);
+        let mut bounds = LeafBounds::of(*self.nodes.allocator(), inst);
         self.low_by(inst, &mut bounds)
     }
 
-    /// The same by bounds that are lent, those of boxes of the instance.
-    pub fn low_by(&self, inst: &Instance, bounds: &mut BoxBounds<'_>) -> Result<u64, NoMemory>
-        requires fit { All (λ l. DualsFit inst.now l.1) (leaves_of self.now) }
+    /// The same by bounds that are lent, those of leaves of the instance.
+    pub fn low_by(&self, inst: &Instance, bounds: &mut LeafBounds<'_>) -> Result<u64, NoMemory>
+        requires fit { All (λ l. LeafFits inst.now l.1) (leaves_of self.now) }
         requires bounds { bounds.old ≡ inst.now }
         ensures kept { bounds.new ≡ bounds.old }
         ensures exact { IfOk result (λ low. low ≡ low_of inst.now self.now) }
-        ensures low_end { All (λ l. l.1.q ≡ 0 → BoundCloses (bound_of inst.now l.0 l.1) 0 None) (leaves_of self.now) → IfOk result (IsLowEnd inst.now) }
+        ensures low_end { All (λ l. l.1.q ≡ 0 → BoundCloses (leaf_bound inst.now l.0 l.1) 0 None) (leaves_of self.now) → IfOk result (IsLowEnd inst.now) }
     {
         let _valid = inst.sites();
         let low = least_low(self.leaves()?, bounds)?;

@@ -5,8 +5,10 @@ use plan_meaning::Plan;
 /// What a search tries next in the box of an open leaf.
 #[derive(Drop)]
 pub enum Move {
-    /// Duals, whose ascent becomes the leaf's where it is in range and has a greater bound.
+    /// Duals by prices, whose ascent becomes the leaf's where it is in range and has a greater bound.
     Duals(Duals),
+    /// Duals for whole knapsacks, which become the leaf's where they are in range and close its box.
+    Whole(Duals),
     /// A plan, which becomes the best one where it is feasible and costs less.
     Plan(Plan),
     /// Nothing this time: the strategy goes on when it is asked again.

@@ -6,8 +6,9 @@ use Rattle.std.proofs.lemmas.Nat.{mul-le}
 use Rattle.location_terms.specs.Instance.{Instance}
 use Rattle.location_terms.specs.Plan.{Plan, cost_of}
 use Rattle.location_terms.specs.Box.{Path}
-use Rattle.location_terms.specs.Bound.{Duals, bound_of}
+use Rattle.location_terms.specs.Bound.{Duals}
 use Rattle.location_terms.specs.Fit.{BoundCloses}
+use Rattle.location_terms.specs.Leaf.{leaf_bound}
 use Rattle.dual_value.specs.Scales.{IsAtLeast}
 use Rattle.plan_search.specs.InBox.{IsNoWorse}
 use Rattle.tree_search.specs.Answer.{cost_in}
@@ -69,7 +70,7 @@ module _ (I : Instance) where
 
   module _ (path : Path) (new old : Option Plan) (h : IsNoWorse I new old) where
     pub closes_still : (d : Duals) → ClosesWith I old path d → ClosesWith I new path d
-    closes_still d closes = closes_no_worse (bound_of I path d) d.q new old h closes
+    closes_still d closes = closes_no_worse (leaf_bound I path d) d.q new old h closes
 
     pub sought_still : (d : Duals) → IsSoughtAt I old path d → IsSoughtAt I new path d
     sought_still d sought P is = within_no_worse P new old h (sought P is)

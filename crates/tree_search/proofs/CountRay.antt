@@ -1,5 +1,5 @@
 -- The rays of a number of sites: too many are opened, or too few may be open.
-use Rattle.std.proofs.Common.{◌≡◌, ℕ, ◌*◌, ◌<◌, ◌≤◌, refl, sym, subst, arith, Bool, true, false, cond, List, [], ◌∷◌, length, ℤ, pos, negsuc, ◌+ℤ◌, ◌≤ℤ◌}
+use Rattle.std.proofs.Common.{◌≡◌, ℕ, ◌*◌, ◌<◌, ◌≤◌, refl, sym, subst, arith, Bool, true, false, cond, List, [], ◌∷◌, length, Option, ℤ, pos, negsuc, ◌+ℤ◌, ◌≤ℤ◌}
 use Rattle.std.specs.Prelude.{◌&&◌, not, filter, sum_by, if◌then◌else◌, unsigned_abs}
 use Rattle.std.specs.Int.{int_min}
 use Rattle.std.proofs.lemmas.Int.{ints, clamps}
@@ -60,9 +60,9 @@ module _ (I : Instance) (path : Path) (nu : ℤ) (small : unsigned_abs nu ≤ MA
   priced_values : total (v_at priced) (length I.customers) ≡ pos 0
   priced_values = total_zero (v_at priced) (length I.customers) (λ j c. zero_v I 0 j c)
 
-  pub closes_count : pos 1 ≤ℤ bound_of I path priced → (old_path : Path) (old d : Duals) → d ≡ priced → IsMadeLeaf I old_path old path d
-  closes_count above old_path old d is =
-      subst (IsMadeLeaf I old_path old path) (sym is) (record { fit = priced_fits; ray = λ _. above; scaled = λ some. absurd (omega (arith, some)) })
+  pub closes_count : pos 1 ≤ℤ bound_of I path priced → (cost : Option ℕ) (old_path : Path) (old d : Duals) → d ≡ priced → IsMadeLeaf I cost old_path old path d
+  closes_count above cost old_path old d is =
+      subst (IsMadeLeaf I cost old_path old path) (sym is) (record { fit = priced_fits; ray = λ _. above; scaled = λ some. absurd (omega (arith, some)) })
 
 module _ (I : Instance) (path : Path) where
   -- more sites are opened than may be open
@@ -73,7 +73,7 @@ module _ (I : Instance) (path : Path) where
       let many : sum_by (λ (i : ℕ). 1) (opened_places I path) ≡ length (opened_places I path) = length-ones (opened_places I path) in
       omega (arith, ints, over, shares, many, priced_values I path (pos 1) (omega arith))
 
-  pub opened_ray : I.hi < length (opened_places I path) → (old_path : Path) (old d : Duals) → d ≡ count_ray I (pos 1) → IsMadeLeaf I old_path old path d
+  pub opened_ray : I.hi < length (opened_places I path) → (cost : Option ℕ) (old_path : Path) (old d : Duals) → d ≡ count_ray I (pos 1) → IsMadeLeaf I cost old_path old path d
   opened_ray over = closes_count I path (pos 1) (omega arith) (opened_bound over)
 
   -- fewer sites may be open than have to be
@@ -89,5 +89,5 @@ module _ (I : Instance) (path : Path) where
       let many : sum_by (λ (i : ℕ). 1) (filter possible (site_places I)) ≡ possible_count I path = length-ones (filter possible (site_places I)) in
       omega (arith, ints, few, each, none, both, kept, many, priced_values I path (negsuc 0) (omega arith))
 
-  pub possible_ray : possible_count I path < I.lo → (old_path : Path) (old d : Duals) → d ≡ count_ray I (negsuc 0) → IsMadeLeaf I old_path old path d
+  pub possible_ray : possible_count I path < I.lo → (cost : Option ℕ) (old_path : Path) (old d : Duals) → d ≡ count_ray I (negsuc 0) → IsMadeLeaf I cost old_path old path d
   possible_ray few = closes_count I path (negsuc 0) (omega arith) (possible_bound few)

@@ -7,8 +7,8 @@ use Rattle.location_terms.specs.Instance.{Instance}
 use Rattle.location_terms.specs.Plan.{Plan}
 use Rattle.location_terms.specs.Box.{Path}
 use Rattle.location_terms.specs.Split.{first_step, second_step}
-use Rattle.location_terms.specs.Bound.{Duals, bound_of}
-use Rattle.location_terms.specs.Fit.{Closes}
+use Rattle.location_terms.specs.Bound.{Duals}
+use Rattle.location_terms.specs.Leaf.{leaf_bound, LeafCloses}
 use Rattle.location_terms.specs.Tree.{Node, Leaf, Fork, Tree, leaves_below, leaves_of, size_of, nodes_of}
 use Rattle.tree_search.specs.Grown.{IsGrownBelow, IsGrownFrom}
 use Rattle.tree_search.specs.Answer.{cost_in, most_decisions, AreHeld, IsAnswerTo, IsBracketCause, IsDecided}
@@ -29,9 +29,9 @@ module _ (I : Instance) (target : Option ℕ) where
   Tells [] [] = Unit {0}
   Tells [] (h ∷ hs) = ⊥
   Tells (l ∷ ls) [] = ⊥
-  Tells (l ∷ ls) (h ∷ hs) = (IsTrue h ↔ Closes I l.0 l.1 target) × Tells ls hs
+  Tells (l ∷ ls) (h ∷ hs) = (IsTrue h ↔ LeafCloses I l.0 l.1 target) × Tells ls hs
 
-  told : (ls : List (Path × Duals)) (held : List Bool) → length held ≡ length ls → ((k : ℕ) → IfSome (slice_get held k) (λ h. IfSome (slice_get ls k) (λ l. IsTrue h ↔ Closes I l.0 l.1 target))) → Tells ls held
+  told : (ls : List (Path × Duals)) (held : List Bool) → length held ≡ length ls → ((k : ℕ) → IfSome (slice_get held k) (λ h. IfSome (slice_get ls k) (λ l. IsTrue h ↔ LeafCloses I l.0 l.1 target))) → Tells ls held
   told [] [] len each = tt
   told [] (h ∷ hs) len each = absurd (omega (arith, len))
   told (l ∷ ls) [] len each = absurd (omega (arith, len))
@@ -43,10 +43,10 @@ module _ (I : Instance) (target : Option ℕ) where
   parted (x ∷ xs) ys (h ∷ hs) tells = let rest = parted xs ys hs tells.1 in (h ∷ rest.0, rest.1, ap (λ bs. h ∷ bs) rest.2, (tells.0, rest.3), rest.4)
 
   -- where none is told to be open, each closes
-  all_close : (ls : List (Path × Duals)) (held : List Bool) → Tells ls held → open_leaves held ≡ 0 → All (λ l. Closes I l.0 l.1 target) ls
-  all_close [] held tells none = All-nil (λ l. Closes I l.0 l.1 target)
+  all_close : (ls : List (Path × Duals)) (held : List Bool) → Tells ls held → open_leaves held ≡ 0 → All (λ l. LeafCloses I l.0 l.1 target) ls
+  all_close [] held tells none = All-nil (λ l. LeafCloses I l.0 l.1 target)
   all_close (l ∷ ls) [] tells none = absurd tells
-  all_close (l ∷ ls) (true ∷ hs) tells none = All-cons (λ l. Closes I l.0 l.1 target) l ls (tells.0.0 refl) (all_close ls hs tells.1 none)
+  all_close (l ∷ ls) (true ∷ hs) tells none = All-cons (λ l. LeafCloses I l.0 l.1 target) l ls (tells.0.0 refl) (all_close ls hs tells.1 none)
   all_close (l ∷ ls) (false ∷ hs) tells none = absurd (omega (arith, none))
 
 -- Growth.
@@ -59,19 +59,19 @@ record Grows (room : ℕ) (old new : Node) (opened : ℕ) : Type 0 where
   sized : size_of new + 2 * opened ≤ size_of old + opened * room
   same : opened ≡ 0 → new ≡ old
 
-module _ (I : Instance) (target : Option ℕ) where
+module _ (I : Instance) (target cost : Option ℕ) where
   abbrev room : ℕ
   room = 2 ^ (most_decisions I + 1)
 
-  leaf_grows : (d : Duals) (new : Node) (path : Path) (held : List Bool) → Tells I target ((path, d) ∷ []) held → IsGrownBelow I target path (Leaf d) new → Grows room (Leaf d) new (open_leaves held)
+  leaf_grows : (d : Duals) (new : Node) (path : Path) (held : List Bool) → Tells I target ((path, d) ∷ []) held → IsGrownBelow I target cost path (Leaf d) new → Grows room (Leaf d) new (open_leaves held)
   leaf_grows d new path [] tells grown = absurd tells
   leaf_grows d new path (h ∷ k ∷ hs) tells grown = absurd tells.1
   leaf_grows d new path (true ∷ []) tells (inl stays) = record { sized = omega (arith, ap size_of stays.1); same = λ none. stays.1 }
   leaf_grows d new path (true ∷ []) tells (inr worked) = absurd (worked.0 (tells.0.0 refl))
   leaf_grows d new path (false ∷ []) tells (inl stays) = absurd (both_ways false refl (tells.0.1 stays.0))
-  leaf_grows d new path (false ∷ []) tells (inr worked) = record { sized = omega (arith, made_within I target path d new path worked.1); same = λ none. absurd (omega (arith, none)) }
+  leaf_grows d new path (false ∷ []) tells (inr worked) = record { sized = omega (arith, made_within I target cost path d new path worked.1); same = λ none. absurd (omega (arith, none)) }
 
-  grows : (old new : Node) (path : Path) (held : List Bool) → Tells I target (leaves_below path old) held → IsGrownBelow I target path old new → Grows room old new (open_leaves held)
+  grows : (old new : Node) (path : Path) (held : List Bool) → Tells I target (leaves_below path old) held → IsGrownBelow I target cost path old new → Grows room old new (open_leaves held)
   grows (Leaf d) new path held tells grown = leaf_grows d new path held tells grown
   grows (Fork split a b) (Leaf d) path held tells grown = absurd grown
   grows (Fork split a b) (Fork split_now a_now b_now) path held tells grown =
@@ -85,29 +85,29 @@ module _ (I : Instance) (target : Option ℕ) where
       }
 
 module _ (I : Instance) (old : Tree) where
-  grown : (target : Option ℕ) (new : Tree) (held : List Bool) → AreHeld I old target held → IsGrownFrom I target old new → Grows (2 ^ (most_decisions I + 1)) old.root new.root (open_leaves held)
-  grown target new held tells from = grows I target old.root new.root [] held (told I target (leaves_of old) held tells.len tells.each) from.root
+  grown : (target cost : Option ℕ) (new : Tree) (held : List Bool) → AreHeld I old target held → IsGrownFrom I target cost old new → Grows (2 ^ (most_decisions I + 1)) old.root new.root (open_leaves held)
+  grown target cost new held tells from = grows I target cost old.root new.root [] held (told I target (leaves_of old) held tells.len tells.each) from.root
 
   -- a tree that grew has less than 2 ^ (decisions + 1) more nodes for each leaf that didn't close
-  pub grown_within : (target : Option ℕ) (new : Tree) (held : List Bool) → AreHeld I old target held → IsGrownFrom I target old new
+  pub grown_within : (target cost : Option ℕ) (new : Tree) (held : List Bool) → AreHeld I old target held → IsGrownFrom I target cost old new
       → nodes_of new + 2 * length (filter not held) ≤ nodes_of old + length (filter not held) * 2 ^ (most_decisions I + 1)
-  grown_within target new held tells from = (grown target new held tells from).sized
+  grown_within target cost new held tells from = (grown target cost new held tells from).sized
 
   module _ (handed : Option Plan) (budget : ℕ) (held : List Bool) (tells : AreHeld I old (cost_in I handed) held) (low : ℕ) (plan : Option Plan) (tree : Tree) (made : ℕ) (answer : IsAnswerTo I old handed budget (Bracket low plan tree made)) where
     -- where each leaf closed at the start, each closes against the answer's plan
     none_open : open_leaves held ≡ 0 → ⊥
     none_open none =
         let spent : IsBracketCause I budget low plan tree made = answer.cause in
-        let same : tree.root ≡ old.root = (grown (cost_in I handed) tree held tells answer.grown).same none in
-        let closed : All (λ (l : Path × Duals). Closes I l.0 l.1 (cost_in I handed)) (leaves_below [] old.root) = all_close I (cost_in I handed) (leaves_of old) held (told I (cost_in I handed) (leaves_of old) held tells.len tells.each) none in
+        let same : tree.root ≡ old.root = (grown (cost_in I handed) (cost_in I plan) tree held tells answer.grown).same none in
+        let closed : All (λ (l : Path × Duals). LeafCloses I l.0 l.1 (cost_in I handed)) (leaves_below [] old.root) = all_close I (cost_in I handed) (leaves_of old) held (told I (cost_in I handed) (leaves_of old) held tells.len tells.each) none in
         let here : Contains (leaves_below [] old.root) (spent.unfinished.path, spent.unfinished.duals) = subst (λ n. Contains (leaves_below [] n) (spent.unfinished.path, spent.unfinished.duals)) same spent.unfinished.leaf in
-        let closes : Closes I spent.unfinished.path spent.unfinished.duals (cost_in I handed) = All-contains (λ (l : Path × Duals). Closes I l.0 l.1 (cost_in I handed)) (leaves_below [] old.root) (spent.unfinished.path, spent.unfinished.duals) closed here in
-        spent.unfinished.unclosed (record { fit = closes.fit; closed = closes_no_worse I (bound_of I spent.unfinished.path spent.unfinished.duals) spent.unfinished.duals.q plan handed answer.kept closes.closed })
+        let closes : LeafCloses I spent.unfinished.path spent.unfinished.duals (cost_in I handed) = All-contains (λ (l : Path × Duals). LeafCloses I l.0 l.1 (cost_in I handed)) (leaves_below [] old.root) (spent.unfinished.path, spent.unfinished.duals) closed here in
+        spent.unfinished.unclosed (record { fit = closes.fit; closed = closes_no_worse I (leaf_bound I spent.unfinished.path spent.unfinished.duals) spent.unfinished.duals.q plan handed answer.kept closes.closed })
 
     no_bracket : (opened : ℕ) → opened ≡ open_leaves held → opened * 2 ^ (most_decisions I + 1) ≤ budget → ⊥
     no_bracket zero is enough = none_open (sym is)
     no_bracket (suc k) is enough =
-        let sized : nodes_of tree + 2 * suc k ≤ nodes_of old + suc k * 2 ^ (most_decisions I + 1) = subst (λ n. nodes_of tree + 2 * n ≤ nodes_of old + n * 2 ^ (most_decisions I + 1)) (sym is) (grown_within (cost_in I handed) tree held tells answer.grown) in
+        let sized : nodes_of tree + 2 * suc k ≤ nodes_of old + suc k * 2 ^ (most_decisions I + 1) = subst (λ n. nodes_of tree + 2 * n ≤ nodes_of old + n * 2 ^ (most_decisions I + 1)) (sym is) (grown_within (cost_in I handed) (cost_in I plan) tree held tells answer.grown) in
         omega (arith, sized, enough, answer.made, answer.cause.spent)
 
   pub decided : (handed : Option Plan) (budget : ℕ) (held : List Bool) (a : Answer) → AreHeld I old (cost_in I handed) held → IsAnswerTo I old handed budget a → length (filter not held) * 2 ^ (most_decisions I + 1) ≤ budget → IsDecided a

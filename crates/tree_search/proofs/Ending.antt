@@ -301,14 +301,14 @@ module _ (I : Instance) where
   second_less path (splits.Lane s c) is = less_using path s c is
 
   -- a tree that was made in a box with at most m decisions left has less than 2 ^ (m + 1) nodes
-  made_small : (target : Option ℕ) (old_path : Path) (old : Duals) (t : Node) (path : Path) (m : ℕ) → left path ≤ m → IsMade I target old_path old path t → size_of t + 1 ≤ 2 ^ (m + 1)
-  made_small target old_path old (Leaf d) path m few made = omega (arith, two_at_least m)
-  made_small target old_path old (Fork split first second) path zero few made =
+  made_small : (target cost : Option ℕ) (old_path : Path) (old : Duals) (t : Node) (path : Path) (m : ℕ) → left path ≤ m → IsMade I target cost old_path old path t → size_of t + 1 ≤ 2 ^ (m + 1)
+  made_small target cost old_path old (Leaf d) path m few made = omega (arith, two_at_least m)
+  made_small target cost old_path old (Fork split first second) path zero few made =
       let less = first_less path split made.0.1 in absurd (omega (arith, few, less))
-  made_small target old_path old (Fork split first second) path (suc n) few made =
+  made_small target cost old_path old (Fork split first second) path (suc n) few made =
       two_children (size_of first) (size_of second) n
-      (made_small target old_path old first (path ++ first_step split ∷ []) n (omega (arith, few, first_less path split made.0.1)) made.1)
-      (made_small target old_path old second (path ++ second_step split ∷ []) n (omega (arith, few, second_less path split made.0.1)) made.2)
+      (made_small target cost old_path old first (path ++ first_step split ∷ []) n (omega (arith, few, first_less path split made.0.1)) made.1)
+      (made_small target cost old_path old second (path ++ second_step split ∷ []) n (omega (arith, few, second_less path split made.0.1)) made.2)
 
   -- at most so much is left to decide in any box
   left_within : (path : Path) → left path ≤ most_decisions I
@@ -328,5 +328,5 @@ module _ (I : Instance) where
       by true free lanes = omega (arith, free, lanes)
       by false free lanes = omega (arith, free)
 
-  pub made_within : (target : Option ℕ) (old_path : Path) (old : Duals) (t : Node) (path : Path) → IsMade I target old_path old path t → size_of t + 1 ≤ 2 ^ (most_decisions I + 1)
-  made_within target old_path old t path made = made_small target old_path old t path (most_decisions I) (left_within path) made
+  pub made_within : (target cost : Option ℕ) (old_path : Path) (old : Duals) (t : Node) (path : Path) → IsMade I target cost old_path old path t → size_of t + 1 ≤ 2 ^ (most_decisions I + 1)
+  made_within target cost old_path old t path made = made_small target cost old_path old t path (most_decisions I) (left_within path) made

@@ -137,6 +137,6 @@ module _ (I : Instance) (path : Path) (valid : IsValid I) (i : ℕ) (b : i < len
       let free : 0 * I.hi ≡ 0 = omega arith in
       omega (arith, ints, values, shares, free, limit.2)
 
-  pub full_is_made : (old_path : Path) (old d : Duals) → d ≡ ray → IsMadeLeaf I old_path old path d
-  full_is_made old_path old d is =
-      subst (IsMadeLeaf I old_path old path) (sym is) (record { fit = ray_fits; ray = λ _. full_bound; scaled = λ some. absurd (omega (arith, some)) })
+  pub full_is_made : (cost : Option ℕ) (old_path : Path) (old d : Duals) → d ≡ ray → IsMadeLeaf I cost old_path old path d
+  full_is_made cost old_path old d is =
+      subst (IsMadeLeaf I cost old_path old path) (sym is) (record { fit = ray_fits; ray = λ _. full_bound; scaled = λ some. absurd (omega (arith, some)) })

@@ -8,12 +8,13 @@ use Rattle.lane_order.specs.Order.{Order, IsOrderOf}
 use Rattle.tree_search.specs.Made.{IsMadeScale}
 use Rattle.tree_search.specs.Making.{Making, IsMakerFor, Makes, StaysMaking}
 use Rattle.tree_search.specs.Best.{Best, Improves}
-use Rattle.tree_search.specs.Searching.{Searching, IsSearch, IsAt, GoesOn}
-use Rattle.location_terms.specs.Bound.{bound_of}
+use Rattle.tree_search.specs.Searching.{Searching, IsSearch, IsSearchAt, GoesOn}
 use Rattle.location_terms.specs.Fit.{BoundCloses}
+use Rattle.location_terms.specs.Leaf.{leaf_bound}
 use Rattle.tree_search.specs.Answer.{cost_in}
 use Rattle.tree_search.specs.Working.{ClosesWith}
 use Rattle.tree_search.proofs.Closer.{no_worse_same}
+use Rattle.tree_search.proofs.MadeLeaf.{by_prices}
 use Rattle.tree_search.proofs.Comparing.{at_least_trans}
 use Rattle.tree_search.proofs.Offered.{improves_again}
 use Rattle.tree_search.proofs.ZeroBound.{plain_scale_fits}
@@ -39,10 +40,10 @@ pub improves_same : (a b : Best) → b ≡ a → Improves a b
 improves_same a b is = subst (Improves a) (sym is) (record { same = refl; no_worse = no_worse_same a.instance a.plan })
 
 module _ (b : Prepared) where
-  pub at_same : (s t : Searching) → IsAt b s → t ≡ s → IsAt b t
-  at_same s t at is = subst (IsAt b) (sym is) at
+  pub at_same : (s t : Searching) → IsSearchAt b s → t ≡ s → IsSearchAt b t
+  at_same s t at is = subst (IsSearchAt b) (sym is) at
 
-  pub goes_same : (s t : Searching) → IsAt b s → t ≡ s → GoesOn b s t
+  pub goes_same : (s t : Searching) → IsSearchAt b s → t ≡ s → GoesOn b s t
   goes_same s t at is = subst (GoesOn b s) (sym is) (record { at = at; plan = improves_same s.best s.best refl; leaf = stays_same b.instance b.path s.leaf })
 
   pub goes_again : (s t u : Searching) → GoesOn b s t → GoesOn b t u → GoesOn b s u
@@ -53,7 +54,7 @@ module _ (b : Prepared) where
   }
 
   -- a plan was offered
-  pub goes_on_plan : (s t : Searching) → IsAt b s → Improves s.best t.best → t.leaf ≡ s.leaf → GoesOn b s t
+  pub goes_on_plan : (s t : Searching) → IsSearchAt b s → Improves s.best t.best → t.leaf ≡ s.leaf → GoesOn b s t
   goes_on_plan s t at improves same = record {
     at = record { instance = improves.same ∙ at.instance; path = at.path; making = subst (Makes b.instance b.path) (sym same) at.making };
     plan = improves;
@@ -61,26 +62,29 @@ module _ (b : Prepared) where
   }
 
   -- the leaf was made stronger
-  pub goes_on_leaf : (s t : Searching) → IsAt b s → t.best ≡ s.best → StaysMaking b.instance b.path s.leaf t.leaf → GoesOn b s t
+  pub goes_on_leaf : (s t : Searching) → IsSearchAt b s → t.best ≡ s.best → StaysMaking b.instance b.path s.leaf t.leaf → GoesOn b s t
   goes_on_leaf s t at same stays = record {
     at = record { instance = ap (λ (x : Best). x.instance) same ∙ at.instance; path = at.path; making = makes_still b.instance b.path s.leaf t.leaf at.making stays };
     plan = improves_same s.best t.best same;
     leaf = stays;
   }
 
-  -- what is kept of the best duals closes the box where these do
-  pub closes_at : (s : Searching) → IsAt b s → BoundCloses s.leaf.bound s.leaf.best.duals.q (cost_in s.best.instance s.best.plan) → ClosesWith b.instance s.best.plan b.path s.leaf.best.duals
-  closes_at s at closes =
-      subst (λ I. BoundCloses (bound_of b.instance b.path s.leaf.best.duals) s.leaf.best.duals.q (cost_in I s.best.plan)) at.instance
-      (subst (λ x. BoundCloses x s.leaf.best.duals.q (cost_in s.best.instance s.best.plan)) at.making.2.bound closes)
+  bound_is : (s : Searching) → IsSearchAt b s → s.leaf.bound ≡ leaf_bound b.instance b.path s.leaf.best.duals
+  bound_is s at = at.making.2.bound ∙ sym (by_prices b.instance b.path s.leaf.best.duals at.making.2.form)
 
-  pub at_closes : (s : Searching) → IsAt b s → ClosesWith b.instance s.best.plan b.path s.leaf.best.duals → BoundCloses s.leaf.bound s.leaf.best.duals.q (cost_in s.best.instance s.best.plan)
+  -- what is kept of the best duals closes the box where these do
+  pub closes_at : (s : Searching) → IsSearchAt b s → BoundCloses s.leaf.bound s.leaf.best.duals.q (cost_in s.best.instance s.best.plan) → ClosesWith b.instance s.best.plan b.path s.leaf.best.duals
+  closes_at s at closes =
+      subst (λ I. BoundCloses (leaf_bound b.instance b.path s.leaf.best.duals) s.leaf.best.duals.q (cost_in I s.best.plan)) at.instance
+      (subst (λ x. BoundCloses x s.leaf.best.duals.q (cost_in s.best.instance s.best.plan)) (bound_is s at) closes)
+
+  pub at_closes : (s : Searching) → IsSearchAt b s → ClosesWith b.instance s.best.plan b.path s.leaf.best.duals → BoundCloses s.leaf.bound s.leaf.best.duals.q (cost_in s.best.instance s.best.plan)
   at_closes s at closes =
-      subst (λ x. BoundCloses x s.leaf.best.duals.q (cost_in s.best.instance s.best.plan)) (sym at.making.2.bound)
-      (subst (λ I. BoundCloses (bound_of b.instance b.path s.leaf.best.duals) s.leaf.best.duals.q (cost_in I s.best.plan)) (sym at.instance) closes)
+      subst (λ x. BoundCloses x s.leaf.best.duals.q (cost_in s.best.instance s.best.plan)) (sym (bound_is s at))
+      (subst (λ I. BoundCloses (leaf_bound b.instance b.path s.leaf.best.duals) s.leaf.best.duals.q (cost_in I s.best.plan)) (sym at.instance) closes)
 
 -- What an opened search has: the parts of its value are those of s.
-module _ (I : Instance) (s : Searching) (same : s.best.instance ≡ I) (order : Order) (best : Best) (leaf : Making) (has : IsSearch order best leaf) (is : (let t : Searching = record { best = best; leaf = leaf } in t) ≡ s) where
+module _ (I : Instance) (s : Searching) (same : s.best.instance ≡ I) (order : Order) (best : Best) (leaf : Making) (lent : Instance) (has : IsSearch order best leaf lent) (is : (let t : Searching = record { best = best; leaf = leaf } in t) ≡ s) where
   pub instance_in : best.instance ≡ I
   instance_in = ap (λ (x : Searching). x.best.instance) is ∙ same
 
@@ -90,8 +94,11 @@ module _ (I : Instance) (s : Searching) (same : s.best.instance ≡ I) (order : 
   pub maker_in : IsMakerFor I leaf
   maker_in = subst (λ (J : Instance). IsMakerFor J leaf) instance_in has.maker
 
+  pub bounds_in : lent ≡ I
+  bounds_in = has.bounds ∙ instance_in
+
 -- The same of the box at work.
-module _ (b : Prepared) (s : Searching) (at : IsAt b s) (best : Best) (leaf : Making) (is : (let t : Searching = record { best = best; leaf = leaf } in t) ≡ s) where
+module _ (b : Prepared) (s : Searching) (at : IsSearchAt b s) (best : Best) (leaf : Making) (is : (let t : Searching = record { best = best; leaf = leaf } in t) ≡ s) where
   pub makes_in : Makes b.instance b.path leaf
   makes_in = subst (λ (x : Searching). Makes b.instance b.path x.leaf) (sym is) at.making
 
@@ -106,8 +113,9 @@ module _ (b : Prepared) (s : Searching) (at : IsAt b s) (best : Best) (leaf : Ma
       goes_on_leaf b s (let t : Searching = record { best = best; leaf = now } in t) at (ap (λ (x : Searching). x.best) is) (subst (λ (x : Searching). StaysMaking b.instance b.path x.leaf now) is stays)
 
 -- with another plan for the same instance
-pub search_still : (order : Order) (best best' : Best) (leaf : Making) → IsSearch order best leaf → best'.instance ≡ best.instance → IsSearch order best' leaf
-search_still order best best' leaf has same = record {
+pub search_still : (order : Order) (best best' : Best) (leaf : Making) (lent : Instance) → IsSearch order best leaf lent → best'.instance ≡ best.instance → IsSearch order best' leaf lent
+search_still order best best' leaf lent has same = record {
   order = subst (IsOrderOf order) (sym same) has.order;
   maker = subst (λ (I : Instance). IsMakerFor I leaf) (sym same) has.maker;
+  bounds = has.bounds ∙ sym same;
 }

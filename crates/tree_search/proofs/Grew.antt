@@ -12,7 +12,7 @@ use Rattle.location_terms.specs.Plan.{Plan}
 use Rattle.location_terms.specs.Box.{Path}
 use Rattle.location_terms.specs.Split.{first_step, second_step, IsSplitAmong}
 use Rattle.location_terms.specs.Bound.{Duals, bound_of}
-use Rattle.location_terms.specs.Fit.{DualsFit}
+use Rattle.location_terms.specs.Leaf.{LeafFits}
 use Rattle.location_terms.specs.Tree.{Leaf, Fork, Tree, HasLists, nodes_of}
 use Rattle.dual_value.proofs.Further.{bound_rises, bound_rises_closed}
 use Rattle.plan_search.proofs.Among.{Contains-map}
@@ -28,11 +28,12 @@ use Rattle.tree_search.specs.Answer.{cost_in}
 use Rattle.tree_search.specs.Working.{IsWorked, IsDoneLeaf, IsReached, AnySplit, IsGrowing, IsGrownPart, steps_left}
 use Rattle.tree_search.proofs.Closer.{no_worse_again, closes_still, sought_still}
 use Rattle.tree_search.proofs.LeafPlaces.{all_at, replaced_size}
+use Rattle.tree_search.proofs.MadeLeaf.{made_leaf_fits, made_still}
 
 -- as the incumbent improves and nodes are made
 pub done_still : (I : Instance) (base : Path) (old : Duals) (plan' plan : Option Plan) (limit nodes' nodes : ℕ) → IsNoWorse I plan' plan → nodes ≤ nodes' → (path : Path) (d : Duals) → IsDoneLeaf I base old plan limit nodes path d → IsDoneLeaf I base old plan' limit nodes' path d
 done_still I base old plan' plan limit nodes' nodes later more path d done = record {
-  made = done.made;
+  made = made_still I path d base old plan' plan later done.made;
   sought = λ scaled. sought_still I path plan' plan later d (done.sought scaled);
   ends = elim done.ends [
     | inl closes ↦ inl (closes_still I path plan' plan later d closes)
@@ -40,9 +41,9 @@ done_still I base old plan' plan limit nodes' nodes later more path d done = rec
   ];
 }
 
-pub lists_of : (I : Instance) (t : Tree) (d : Duals) → t.sites ≡ site_ids I → t.customers ≡ customer_ids I → DualsFit I d → HasLists (length t.sites) (length t.customers) d
+pub lists_of : (I : Instance) (t : Tree) (d : Duals) → t.sites ≡ site_ids I → t.customers ≡ customer_ids I → LeafFits I d → HasLists (length t.sites) (length t.customers) d
 lists_of I t d sites customers fit =
-    (fit.of_instance.sites ∙ sym (ap length sites ∙ length-map I.sites (λ s. s.id)), fit.of_instance.customers ∙ sym (ap length customers ∙ length-map I.customers (λ c. c.id)), fit.in_limits)
+    (fit.numbers.of_instance.sites ∙ sym (ap length sites ∙ length-map I.sites (λ s. s.id)), fit.numbers.of_instance.customers ∙ sym (ap length customers ∙ length-map I.customers (λ c. c.id)), fit.numbers.in_limits, fit.prices)
 
 pub known_more : (I : Instance) (path : Path) (e : Decision) → IsPathOf I path → NamesKnown I e → IsPathOf I (path ++ e ∷ [])
 known_more I path e known names = All-append (NamesKnown I) path (e ∷ []) known (All-cons (NamesKnown I) e [] names (All-nil (NamesKnown I)))
@@ -98,11 +99,14 @@ module _ (I : Instance) (base : Path) (old : Duals) (handed plan plan' : Option 
       all_at (λ l. IsReached I base l.0 l.1) _ (g.left - 1) (path, d) (built_leaves (IsReached I base) AnySplit g.tree.root g.base growing.reached) at_work
 
   module _ (valid : IsValid I) (may_split : Bool) (e : Duals) (split : Option Split) (later : IsNoWorse I plan' plan) (is : IsWorked I plan' may_split old path e split) where
-    made_here : IsMadeLeaf I base old path e
+    made_here : IsMadeLeaf I (cost_in I plan') base old path e
     made_here = is.made base reached_at.lowers
 
+    fits_here : LeafFits I e
+    fits_here = made_leaf_fits I path e base old (cost_in I plan') made_here
+
     pub lists_here : HasLists (length g.tree.sites) (length g.tree.customers) e
-    lists_here = lists_of I g.tree e growing.sites growing.customers made_here.fit
+    lists_here = lists_of I g.tree e growing.sites growing.customers fits_here
 
     -- the leaf at work is done
     module _ (none : split ≡ None) (spent : IsFalse may_split → limit < nodes_of g.tree + 2) where
@@ -127,7 +131,7 @@ module _ (I : Instance) (base : Path) (old : Duals) (handed plan plan' : Option 
         at = growing.at;
         sites = growing.sites;
         customers = growing.customers;
-        reached = built_with_duals (IsReached I base) AnySplit g path d at_work growing.reached e (record { known = reached_at.known; lowers = reached_at.lowers; fit = made_here.fit });
+        reached = built_with_duals (IsReached I base) AnySplit g path d at_work growing.reached e (record { known = reached_at.known; lowers = reached_at.lowers; fit = fits_here });
         done =
             built_replaced (IsDoneLeaf I base old plan' limit (nodes_of after.tree)) (IsDueSplit I (cost_in I handed)) path d (Leaf e) leaf_done g.tree.root g.base g.left (g.left - 1) (omega (arith, left)) at_work
             (built_but_weaker (IsDoneLeaf I base old plan limit (nodes_of g.tree)) (IsDoneLeaf I base old plan' limit (nodes_of after.tree)) (IsDueSplit I (cost_in I handed)) (IsDueSplit I (cost_in I handed)) (done_still I base old plan' plan limit (nodes_of after.tree) (nodes_of g.tree) later (omega (arith, same_nodes))) (λ p s h. h) g.tree.root g.base g.left growing.done);
@@ -167,8 +171,8 @@ module _ (I : Instance) (base : Path) (old : Duals) (handed plan plan' : Option 
         sites = growing.sites;
         customers = growing.customers;
         reached = built_split (IsReached I base) AnySplit g path d at_work growing.reached s first e tt
-            (record { known = known_more I path (first_step s) reached_at.known (first_known I path s known); lowers = lowers_first; fit = subst (DualsFit I) (sym same) made_here.fit })
-            (record { known = known_more I path (second_step s) reached_at.known (second_known I path s known); lowers = lowers_second; fit = made_here.fit });
+            (record { known = known_more I path (first_step s) reached_at.known (first_known I path s known); lowers = lowers_first; fit = subst (LeafFits I) (sym same) fits_here })
+            (record { known = known_more I path (second_step s) reached_at.known (second_known I path s known); lowers = lowers_second; fit = fits_here });
         done =
             done_split (IsDoneLeaf I base old plan' limit (nodes_of after_split.tree)) (IsDueSplit I (cost_in I handed)) g left path d at_work
             (built_but_weaker (IsDoneLeaf I base old plan limit (nodes_of g.tree)) (IsDoneLeaf I base old plan' limit (nodes_of after_split.tree)) (IsDueSplit I (cost_in I handed)) (IsDueSplit I (cost_in I handed)) (done_still I base old plan' plan limit (nodes_of after_split.tree) (nodes_of g.tree) later (omega (arith, more_nodes))) (λ p s h. h) g.tree.root g.base g.left growing.done)

@@ -7,6 +7,7 @@ use Rattle.std.proofs.lemmas.Int.{ints}
 use Rattle.std.proofs.lemmas.List.{length-replicate}
 use Rattle.location_terms.specs.Instance.{Instance}
 use Rattle.location_terms.specs.Box.{Path}
+use Rattle.location_terms.specs.declared.form.LeafForm.TheVariants.{Prices}
 use Rattle.location_terms.specs.Bound.{Duals, bound_of}
 use Rattle.location_terms.specs.Fit.{AreTame}
 use Rattle.location_terms.specs.declared.limits.TheConstants.{MAX_SCALE}
@@ -25,7 +26,7 @@ use Rattle.dual_adjust.specs.Slackness.{tight_sites}
 use Rattle.dual_adjust.specs.Adjustment.{Gains}
 use Rattle.dual_adjust.specs.Present.{Present, IsStart, HasAscended}
 use Rattle.dual_adjust.specs.Adjusted.{IsAdjusted, IsRiseAbove}
-use Rattle.tree_search.specs.Made.{plain_scale, IsPlainAscent, IsMadeScale, AreServed, IsMadeLeaf}
+use Rattle.tree_search.specs.Made.{plain_scale, IsPlainAscent, IsMadeScale, AreServed, IsMadeByPrices}
 use Rattle.tree_search.specs.Making.{Making, IsMakerFor, LowersNone, IsMaking, StaysMaking}
 use Rattle.tree_search.specs.Stored.{making_of, AreAsLong, AreAlike}
 use Rattle.tree_search.specs.declared.leaf_maker.LeafMaker.TheInside.{Inside}
@@ -58,9 +59,9 @@ long_again d e f first second = record { customers = second.customers ∙ sym fi
 
 module _ (I : Instance) (path : Path) where
   -- the best duals are replaced by others that are no worse
-  pub stays_from : (old new : Making) → HasPlain old new.zeros new.plain new.plain_bound new.hint → HasAscended I path new.best → IsMadeScale I new.best.duals.q → new.bound ≡ bound_of I path new.best.duals
+  pub stays_from : (old new : Making) → HasPlain old new.zeros new.plain new.plain_bound new.hint → HasAscended I path new.best → new.best.duals.form ≡ Prices → IsMadeScale I new.best.duals.q → new.bound ≡ bound_of I path new.best.duals
       → IsAtLeast (bound_of I path new.best.duals) new.best.duals.q (bound_of I path old.best.duals) old.best.duals.q → StaysMaking I path old new
-  stays_from old new has risen scale bound more =
+  stays_from old new has risen form scale bound more =
       record {
         making = λ old_path replaced m.
             let above : IsAtLeast (bound_of I path new.best.duals) new.best.duals.q (bound_of I path old.plain) old.plain.q =
@@ -73,17 +74,18 @@ module _ (I : Instance) (path : Path) where
               plain_bound = has.bound ∙ m.plain_bound ∙ ap (bound_of I path) (sym has.plain);
               hint = has.hint ∙ m.hint ∙ ap (tight_sites I path) (sym has.plain);
               best_risen = risen;
+              form = form;
               bound = bound;
               scale = scale;
               above = subst (λ (d : Duals). IsAtLeast (bound_of I path new.best.duals) new.best.duals.q (bound_of I path d) d.q) (sym has.plain) above;
-              replaced = λ tame made. at_least_trans _ _ _ new.best.duals.q old.best.duals.q replaced.q m.best_risen.tame.scaled more (m.replaced tame made);
+              replaced = λ priced tame made. at_least_trans _ _ _ new.best.duals.q old.best.duals.q replaced.q m.best_risen.tame.scaled more (m.replaced priced tame made);
             };
         risen = more;
       }
 
   -- the leaf is made where its best duals are better than the plain ascent wherever that gains
   pub made_from : (old_path : Path) (old : Duals) (m : Making) → AreServed I path → IsMaking I old_path old path m
-      → (Gains I path m.plain → IsGreater (bound_of I path m.best.duals) m.best.duals.q (bound_of I path m.plain) m.plain.q) → IsMadeLeaf I old_path old path m.best.duals
+      → (Gains I path m.plain → IsGreater (bound_of I path m.best.duals) m.best.duals.q (bound_of I path m.plain) m.plain.q) → IsMadeByPrices I old_path old path m.best.duals
   made_from old_path old m served making gains =
       let scaled = making.best_risen.tame.scaled in
       record {
@@ -110,6 +112,10 @@ module _ (I : Instance) (path : Path) where
   -- the scale of the plain ascent
   pub plain_scale_of : (d : Duals) → IsPlainAscent I path d → d.q ≡ plain_scale I
   plain_scale_of d asc = (ascended_is_risen I path (customer_places I) (all_known I path) (zeros I (plain_scale I)) d (length-replicate (length I.customers) (pos 0)) asc).scale
+
+  -- it is by prices
+  pub plain_form_of : (d : Duals) → IsPlainAscent I path d → d.form ≡ Prices
+  plain_form_of d asc = (ascended_is_risen I path (customer_places I) (all_known I path) (zeros I (plain_scale I)) d (length-replicate (length I.customers) (pos 0)) asc).form
 
   -- duals of the instance are as long as its zeros
   pub tame_is_long : (a : Inside) (d : Duals) → a.zeros ≡ zeros I (plain_scale I) → AreTame I d → AreAsLong a.zeros d
@@ -188,14 +194,14 @@ module _ (I : Instance) (path : Path) where
     settled_stays =
         let up : IsAtLeast (bound_of I path e) e.q (bound_of I path old.plain) old.plain.q =
         subst (λ q. IsAtLeast (bound_of I path e) q (bound_of I path old.plain) old.plain.q) (sym scale_is) (same_at_least (bound_of I path e) (bound_of I path old.plain) old.plain.q adjusted.bound) in
-        stays_from old new has risen (inl (scale_is ∙ plain_scale_of old.plain making.is_plain)) bound (at_least_trans _ _ _ e.q old.plain.q old.best.duals.q making.plain_tame.scaled up no_better)
+        stays_from old new has risen (adjusted.same_prices.form ∙ plain_form_of old.plain making.is_plain) (inl (scale_is ∙ plain_scale_of old.plain making.is_plain)) bound (at_least_trans _ _ _ e.q old.plain.q old.best.duals.q making.plain_tame.scaled up no_better)
 
     settled_gains : Gains I path old.plain → IsGreater (bound_of I path e) e.q (bound_of I path old.plain) old.plain.q
     settled_gains gains =
         subst (λ q. IsGreater (bound_of I path e) q (bound_of I path old.plain) old.plain.q) (sym scale_is)
         (same_greater (bound_of I path e) (bound_of I path old.plain) old.plain.q making.plain_tame.scaled (adjusted.gain old.plain making.plain_risen (omega arith) gains))
 
-    pub settled_made : AreServed I path → IsMadeLeaf I old_path replaced path new.best.duals
+    pub settled_made : AreServed I path → IsMadeByPrices I old_path replaced path new.best.duals
     settled_made served =
         made_from old_path replaced new served (settled_stays.making old_path replaced making)
         (λ gains. subst (λ (d : Duals). IsGreater (bound_of I path e) e.q (bound_of I path d) d.q) (sym has.plain) (settled_gains (subst (Gains I path) has.plain gains)))
@@ -221,14 +227,15 @@ module _ (I : Instance) (path : Path) where
         plain_bound = plain_bound ∙ ap (bound_of I path) (sym is);
         hint = hint ∙ ap (tight_sites I path) (sym is);
         best_risen = risen;
+        form = plain_form_of m.best.duals plain;
         bound = bound;
         scale = inl (plain_scale_of m.best.duals plain);
         above = subst (λ (d : Duals). IsAtLeast (bound_of I path m.best.duals) m.best.duals.q (bound_of I path d) d.q) (sym is) (same_at_least (bound_of I path m.best.duals) (bound_of I path m.best.duals) m.best.duals.q (omega (arith, ints)));
-        replaced = λ tame _. let none = tame.scaled in absurd (omega (arith, none));
+        replaced = λ _ tame _. let none = tame.scaled in absurd (omega (arith, none));
       }
 
   -- below a leaf whose duals were taken
-  pub below_leaf : (m : Making) (old : Duals) → IsMaking I path (zeros I 0) path m → (AreTame I old → IsMadeScale I old.q → IsAtLeast (bound_of I path m.best.duals) m.best.duals.q (bound_of I path old) old.q) → (old_path : Path) → LowersNone I old_path path → IsMaking I old_path old path m
+  pub below_leaf : (m : Making) (old : Duals) → IsMaking I path (zeros I 0) path m → (old.form ≡ Prices → AreTame I old → IsMadeScale I old.q → IsAtLeast (bound_of I path m.best.duals) m.best.duals.q (bound_of I path old) old.q) → (old_path : Path) → LowersNone I old_path path → IsMaking I old_path old path m
   below_leaf m old making taken old_path lowers =
       record {
         maker = making.maker;
@@ -238,10 +245,11 @@ module _ (I : Instance) (path : Path) where
         plain_bound = making.plain_bound;
         hint = making.hint;
         best_risen = making.best_risen;
+        form = making.form;
         bound = making.bound;
         scale = making.scale;
         above = making.above;
-        replaced = λ tame made. at_least_trans _ _ _ m.best.duals.q old.q old.q tame.scaled (taken tame made) (same_at_least (bound_of I path old) (bound_of I old_path old) old.q (lowers old));
+        replaced = λ priced tame made. at_least_trans _ _ _ m.best.duals.q old.q old.q tame.scaled (taken priced tame made) (same_at_least (bound_of I path old) (bound_of I old_path old) old.q (lowers old));
       }
 
 -- a bound as the code has it

@@ -6,6 +6,7 @@ mod FullRay
 mod Grew
 mod JudgedRay
 mod LeafPlaces
+mod MadeLeaf
 mod Offered
 mod OpenLanes
 mod OpenPlans

@@ -7,9 +7,10 @@ use Rattle.std.proofs.lemmas.Nat.{mul-le}
 use Rattle.location_terms.specs.Instance.{Instance, IsValid}
 use Rattle.location_terms.specs.Plan.{Plan, cost_of}
 use Rattle.location_terms.specs.Box.{Path}
-use Rattle.location_terms.specs.Bound.{Duals, AreDualsOf, bound_of}
+use Rattle.location_terms.specs.Bound.{Duals, AreDualsOf}
 use Rattle.location_terms.specs.Fit.{BoundCloses}
-use Rattle.location_terms.proofs.Duality.{bound_within_cost}
+use Rattle.location_terms.specs.Leaf.{leaf_bound}
+use Rattle.location_terms.proofs.Duality.{leaf_bound_within_cost}
 use Rattle.dual_adjust.specs.Slackness.{tight_sites}
 use Rattle.plan_search.specs.InBox.{IsPathOf, IsNoWorse}
 use Rattle.plan_search.specs.Packed.{packed}
@@ -47,7 +48,7 @@ module _ (I : Instance) where
     offered_sought plan hint is offered P at = some_within I plan (packed I path hint) P offered (ap (packed I path) is ∙ at)
 
     -- where the box closes, no plan of it costs less
-    closed_within : (q cost : ℕ) (plan : Option Plan) → 1 ≤ q → BoundCloses (bound_of I path d) q (cost_in I plan) → bound_of I path d ≤ℤ pos (q * cost) → IsSomeAnd plan (λ Q. cost_of I Q ≤ cost)
+    closed_within : (q cost : ℕ) (plan : Option Plan) → 1 ≤ q → BoundCloses (leaf_bound I path d) q (cost_in I plan) → leaf_bound I path d ≤ℤ pos (q * cost) → IsSomeAnd plan (λ Q. cost_of I Q ≤ cost)
     closed_within q cost plan some (inl ray) within = absurd (omega (arith, ray.0, some))
     closed_within q cost None some (inr scaled) within = absurd scaled.1
     closed_within q cost (Some Q) some (inr scaled) within = no_more q (cost_of I Q) cost (omega (arith, ints, scaled.1, within))
@@ -65,4 +66,4 @@ module _ (I : Instance) where
     pub closed_sought : (plan : Option Plan) → IsValid I → IsPathOf I path → AreDualsOf I d → ClosesWith I plan path d → 1 ≤ d.q → IsSoughtAt I plan path d
     closed_sought plan valid known duals closes some P is =
         closed_within d.q (cost_of I P) plan some closes
-        (bound_within_cost I path d P valid (packed_feasible I path (tight_sites I path d) valid P is) duals (packed_in_box I path (tight_sites I path d) valid P is known))
+        (leaf_bound_within_cost I path d P valid (packed_feasible I path (tight_sites I path d) valid P is) duals (packed_in_box I path (tight_sites I path d) valid P is known))

@@ -12,7 +12,9 @@ use Rattle.location_terms.specs.Plan.{Plan}
 use Rattle.location_terms.specs.Box.{Path}
 use Rattle.location_terms.specs.Split.{first_step, second_step}
 use Rattle.location_terms.specs.Bound.{Duals, bound_of}
-use Rattle.location_terms.specs.Fit.{DualsFit, BoundCloses, Closes}
+use Rattle.location_terms.specs.declared.form.LeafForm.TheVariants.{Prices}
+use Rattle.location_terms.specs.Fit.{BoundCloses}
+use Rattle.location_terms.specs.Leaf.{leaf_bound, LeafFits, LeafCloses}
 use Rattle.location_terms.specs.Tree.{Node, Leaf, Fork, Tree, IsTree, StandsOn, SplitsAmong, leaves_below, leaves_of, nodes_of}
 use Rattle.dual_ascent.proofs.Plain.{plain_keeps}
 use Rattle.plan_search.specs.InBox.{IsPathOf, IsNoWorse}
@@ -34,6 +36,7 @@ use Rattle.tree_search.proofs.Comparing.{times_le}
 use Rattle.tree_search.proofs.Offered.{closed_sought}
 use Rattle.tree_search.proofs.Grew.{known_more, first_known, second_known}
 use Rattle.tree_search.proofs.LeafPlaces.{all_at}
+use Rattle.tree_search.proofs.MadeLeaf.{ray_bound, above_scaled, some_target, by_prices, of_made, made_leaf_fits, made_ray, made_still}
 use Rattle.tree_search.proofs.TightPlans.{tight_plans}
 use Rattle.tree_search.proofs.ZeroBound.{plain_scale_fits, bound_at_zero}
 
@@ -60,43 +63,32 @@ module _ (I : Instance) where
     ];
   }
 
+  -- a tree that was made stays one as the incumbent improves
+  made_later : (handed plan' plan : Option Plan) → IsNoWorse I plan' plan → (base : Path) (old : Duals) (t : Node) → IsMade I (cost_in I handed) (cost_in I plan) base old base t → IsMade I (cost_in I handed) (cost_in I plan') base old base t
+  made_later handed plan' plan later base old t =
+      built_weaker (IsMadeLeaf I (cost_in I plan) base old) (IsMadeLeaf I (cost_in I plan') base old) (IsDueSplit I (cost_in I handed)) (IsDueSplit I (cost_in I handed))
+      (λ path d made. made_still I path d base old plan' plan later made) (λ path split due. due) t base
+
   pub renewed_still : (handed plan' plan : Option Plan) (budget made' made : ℕ) → IsNoWorse I plan' plan → made ≤ made' → (path : Path) (d : Duals) (new : Node) → IsRenewed I handed plan budget made path d new → IsRenewed I handed plan' budget made' path d new
   renewed_still handed plan' plan budget made' made later more path d new renewed = record {
-    grown = renewed.grown;
+    grown = elim renewed.grown [
+      | inl stays ↦ inl stays
+      | inr worked ↦ inr (worked.0, made_later handed plan' plan later path d new worked.1)
+    ];
     ended = All-weaker (λ l. HasEnded I plan budget made l.0 l.1) (λ l. HasEnded I plan' budget made' l.0 l.1) (λ l e. ended_still plan' plan budget made' made later more l.0 l.1 e) (leaves_below path new) renewed.ended;
   }
 
   -- A leaf that is held.
 
-  ray_bound : (bound : ℤ) (q : ℕ) (target : Option ℕ) → q ≡ 0 → BoundCloses bound q target → pos 1 ≤ℤ bound
-  ray_bound bound q target none (inl ray) = ray.1
-  ray_bound bound q target none (inr scaled) = absurd (omega (arith, none, scaled.0))
-
-  above_scaled : (bound : ℤ) (q : ℕ) (target : Option ℕ) → 1 ≤ q → BoundCloses bound q target → (pos 0 -ℤ pos q) <ℤ bound
-  above_scaled bound q target some (inl ray) = absurd (omega (arith, some, ray.0))
-  above_scaled bound q None some (inr scaled) = absurd scaled.1
-  above_scaled bound q (Some zero) some (inr scaled) =
-      let least : (pos q *ℤ (pos 0 -ℤ pos 1)) ≡ (pos 0 -ℤ pos q) = omega (arith, ints) in
-      omega (arith, ints, scaled.1, least)
-  above_scaled bound q (Some (suc t)) some (inr scaled) =
-      let one_less : (pos (suc t) -ℤ pos 1) ≡ pos t = omega (arith, ints) in
-      let above : (pos q *ℤ pos t) <ℤ bound = subst (λ x. (pos q *ℤ x) <ℤ bound) one_less scaled.1 in
-      omega (arith, ints, above, some)
-
-  some_target : (bound : ℤ) (q : ℕ) (plan : Option Plan) → 1 ≤ q → BoundCloses bound q (cost_in I plan) → IsSome plan
-  some_target bound q plan some (inl ray) = absurd (omega (arith, some, ray.0))
-  some_target bound q None some (inr scaled) = absurd scaled.1
-  some_target bound q (Some P) some (inr scaled) = refl
-
-  pub held_renewed : (handed plan : Option Plan) (budget made : ℕ) (path : Path) (d : Duals) → IsValid I → IsPathOf I path → IsNoWorse I plan handed → Closes I path d (cost_in I handed) → IsRenewed I handed plan budget made path d (Leaf d)
+  pub held_renewed : (handed plan : Option Plan) (budget made : ℕ) (path : Path) (d : Duals) → IsValid I → IsPathOf I path → IsNoWorse I plan handed → LeafCloses I path d (cost_in I handed) → IsRenewed I handed plan budget made path d (Leaf d)
   held_renewed handed plan budget made path d valid known later closes =
-      let bound : ℤ = bound_of I path d in
+      let bound : ℤ = leaf_bound I path d in
       let ended : HasEnded I handed budget made path d = record {
         fit = closes.fit;
         ray = λ none. ray_bound bound d.q (cost_in I handed) none closes.closed;
         above = λ scaled. above_scaled bound d.q (cost_in I handed) scaled closes.closed;
-        some = λ scaled _ _. some_target bound d.q handed scaled closes.closed;
-        sought = closed_sought I path d handed valid known closes.fit.of_instance closes.closed;
+        some = λ scaled _ _. some_target I bound d.q handed scaled closes.closed;
+        sought = closed_sought I path d handed valid known closes.fit.numbers.of_instance closes.closed;
         ends = inl closes.closed;
       } in
       record {
@@ -120,13 +112,19 @@ module _ (I : Instance) where
 
     done_ended : (base : Path) (old : Duals) (plan : Option Plan) (limit nodes budget made : ℕ) → budget + nodes ≤ limit + made → (path : Path) (d : Duals) → IsDoneLeaf I base old plan limit nodes path d → HasEnded I plan budget made path d
     done_ended base old plan limit nodes budget made spends path d done = record {
-      fit = done.made.fit;
-      ray = done.made.ray;
-      above = λ scaled. made_above base old path d (done.made.scaled scaled);
-      some = λ scaled no_caps free_count.
-          let at_scale = done.made.scaled scaled in
-          let packs = tight_plans I path d valid no_caps free_count at_scale.served at_scale.blocked in
-          is_some_of plan _ (done.sought scaled packs.0 packs.1);
+      fit = made_leaf_fits I path d base old (cost_in I plan) done.made;
+      ray = made_ray I path d base old (cost_in I plan) done.made;
+      above = λ scaled. elim (of_made I path d base old (cost_in I plan) done.made) [
+        | inl priced ↦ subst (λ x. (pos 0 -ℤ pos d.q) <ℤ x) (sym (by_prices I path d priced.0)) (made_above base old path d (priced.1.scaled scaled))
+        | inr whole ↦ above_scaled (leaf_bound I path d) d.q (cost_in I plan) scaled whole.1.closed
+      ];
+      some = λ scaled no_caps free_count. elim (of_made I path d base old (cost_in I plan) done.made) [
+        | inl priced ↦
+            let at_scale = priced.1.scaled scaled in
+            let packs = tight_plans I path d valid no_caps free_count at_scale.served at_scale.blocked in
+            is_some_of plan _ (done.sought scaled packs.0 packs.1)
+        | inr whole ↦ some_target I (leaf_bound I path d) d.q plan scaled whole.1.closed
+      ];
       sought = done.sought;
       ends = elim done.ends [
         | inl closes ↦ inl closes
@@ -149,11 +147,11 @@ module _ (I : Instance) where
         open_to None (Some P) later bound q fails = absurd later
         open_to (Some Q) (Some P) later bound q fails = λ closes. fails (closes_no_worse I bound q (Some Q) (Some P) later closes)
 
-    built_made : (base : Path) (old : Duals) (plan handed plan' : Option Plan) (limit nodes : ℕ) → IsNoWorse I plan handed → (t : Node) (path : Path) → IsBuiltOf (IsDoneLeaf I base old plan' limit nodes) (IsDueSplit I (cost_in I plan)) path t → IsMade I (cost_in I handed) base old path t
+    built_made : (base : Path) (old : Duals) (plan handed plan' : Option Plan) (limit nodes : ℕ) → IsNoWorse I plan handed → (t : Node) (path : Path) → IsBuiltOf (IsDoneLeaf I base old plan' limit nodes) (IsDueSplit I (cost_in I plan)) path t → IsMade I (cost_in I handed) (cost_in I plan') base old path t
     built_made base old plan handed plan' limit nodes later =
-        built_weaker (IsDoneLeaf I base old plan' limit nodes) (IsMadeLeaf I base old) (IsDueSplit I (cost_in I plan)) (IsDueSplit I (cost_in I handed)) (λ path d done. done.made) (λ path split due. (open_weaker plan handed path later due.0, due.1))
+        built_weaker (IsDoneLeaf I base old plan' limit nodes) (IsMadeLeaf I (cost_in I plan') base old) (IsDueSplit I (cost_in I plan)) (IsDueSplit I (cost_in I handed)) (λ path d done. done.made) (λ path split due. (open_weaker plan handed path later due.0, due.1))
 
-    pub part_renewed : (handed plan plan' : Option Plan) (budget before made : ℕ) (path : Path) (d : Duals) (part : Tree) → before ≤ budget → IsNoWorse I plan handed → (Closes I path d (cost_in I handed) → ⊥) → nodes_of part ≡ made + 1 → IsGrownPart I path d plan plan' ((budget - before) + 1) part → IsRenewed I handed plan' budget (before + made) path d part.root
+    pub part_renewed : (handed plan plan' : Option Plan) (budget before made : ℕ) (path : Path) (d : Duals) (part : Tree) → before ≤ budget → IsNoWorse I plan handed → (LeafCloses I path d (cost_in I handed) → ⊥) → nodes_of part ≡ made + 1 → IsGrownPart I path d plan plan' ((budget - before) + 1) part → IsRenewed I handed plan' budget (before + made) path d part.root
     part_renewed handed plan plan' budget before made path d part within later unclosed count grown = record {
       grown = inr (unclosed, built_made path d plan handed plan' ((budget - before) + 1) (nodes_of part) later part.root path grown.root);
       ended =
@@ -171,7 +169,7 @@ module _ (I : Instance) where
 
     -- the parts for the leaves of a tree and for those that follow
     pub grown_whole : (t : Node) (path : Path) (rest : List (Path × Duals)) (ps : List Node) → leaf_total t ≤ length ps → AreRenewedParts (IsRenewed I handed plan budget made) (leaves_below path t ++ rest) ps
-        → IsGrownBelow I (cost_in I handed) path t (renewed t ps).0 × All Ended (leaves_below path (renewed t ps).0) × AreRenewedParts (IsRenewed I handed plan budget made) rest (renewed t ps).1
+        → IsGrownBelow I (cost_in I handed) (cost_in I plan) path t (renewed t ps).0 × All Ended (leaves_below path (renewed t ps).0) × AreRenewedParts (IsRenewed I handed plan budget made) rest (renewed t ps).1
     grown_whole (Leaf d) path rest [] many are = absurd (omega (arith, many))
     grown_whole (Leaf d) path rest (p ∷ ps) many are = (are.0.grown, are.0.ended, are.1)
     grown_whole (Fork split a b) path rest ps many are =
@@ -222,7 +220,7 @@ module _ (I : Instance) (valid : IsValid I) (old : Tree) (handed : Option Plan) 
   pub regrown_start : (r : Renewing) → r ≡ renewing_from old → (so_now : IsRegrowing I old handed handed budget r 0) × (length so_now.parts ≡ 0)
   regrown_start r is = (record { parts = []; so_far = is ∙ begun_to old; renewed = tt; count = omega arith; within = omega arith }, refl)
 
-  module _ (tree : IsTree old) (stands : StandsOn old I) (fit : All (λ l. DualsFit I l.1) (leaves_of old)) (plan : Option Plan) (r : Renewing) (made place : ℕ) (within : place < length held) (so_far : IsRegrowing I old handed plan budget r made) (at : length so_far.parts ≡ place) where
+  module _ (tree : IsTree old) (stands : StandsOn old I) (fit : All (λ l. LeafFits I l.1) (leaves_of old)) (plan : Option Plan) (r : Renewing) (made place : ℕ) (within : place < length held) (so_far : IsRegrowing I old handed plan budget r made) (at : length so_far.parts ≡ place) where
     leaf : (l : Path × Duals) × (slice_get (leaves_of old) place ≡ Some l)
     leaf = some_at (leaves_of old) place (omega (arith, within, are.len))
 
@@ -244,7 +242,7 @@ module _ (I : Instance) (valid : IsValid I) (old : Tree) (handed : Option Plan) 
     pub leaf_known : IfSome (slice_get r.ahead 0) (λ l. IsKnownLeaf I l.0 l.1)
     leaf_known =
         subst (λ o. IfSome o (λ l. IsKnownLeaf I l.0 l.1)) (sym leaf_now)
-        (record { known = path_known; fit = all_at (λ l. DualsFit I l.1) (leaves_of old) place leaf.0 fit leaf.1 })
+        (record { known = path_known; fit = all_at (λ l. LeafFits I l.1) (leaves_of old) place leaf.0 fit leaf.1 })
 
     pub on_sites : r.tree.sites ≡ site_ids I
     on_sites = ap (λ (x : Renewing). x.tree.sites) so_far.so_far ∙ stands.sites
@@ -261,10 +259,10 @@ module _ (I : Instance) (valid : IsValid I) (old : Tree) (handed : Option Plan) 
           so_far.count,
         )
 
-    told : (h : Bool) → slice_get held place ≡ Some h → IsTrue h ↔ Closes I leaf.0.0 leaf.0.1 (cost_in I handed)
+    told : (h : Bool) → slice_get held place ≡ Some h → IsTrue h ↔ LeafCloses I leaf.0.0 leaf.0.1 (cost_in I handed)
     told h here =
-        subst (λ o. IfSome o (λ l. IsTrue h ↔ Closes I l.0 l.1 (cost_in I handed))) leaf.1
-        (subst (λ o. IfSome o (λ h. IfSome (slice_get (leaves_of old) place) (λ l. IsTrue h ↔ Closes I l.0 l.1 (cost_in I handed)))) here (are.each place))
+        subst (λ o. IfSome o (λ l. IsTrue h ↔ LeafCloses I l.0 l.1 (cost_in I handed))) leaf.1
+        (subst (λ o. IfSome o (λ h. IfSome (slice_get (leaves_of old) place) (λ l. IsTrue h ↔ LeafCloses I l.0 l.1 (cost_in I handed)))) here (are.each place))
 
     pub held_step : slice_get held place ≡ Some true → IsNoWorse I plan handed → (r' : Renewing) → r' ≡ stayed r → (so_now : IsRegrowing I old handed plan budget r' made) × (length so_now.parts ≡ place + 1)
     held_step here later r' is = (
@@ -319,9 +317,11 @@ module _ (I : Instance) (valid : IsValid I) (old : Tree) (handed : Option Plan) 
 -- the answer that shows a tree of which every leaf was looked at
 pub answers_to : (I : Instance) (old new : Tree) (handed plan : Option Plan) (budget made : ℕ) (a : Answer) → IsRegrownFrom I old handed plan budget new made → IsNoWorse I plan handed → Answers I new plan made budget a → IsAnswerTo I old handed budget a
 answers_to I old new handed plan budget made a regrown later answers =
-    let sought : PlansWereSought I new plan = All-weaker (λ l. HasEnded I plan budget made l.0 l.1) (λ l. 1 ≤ l.1.q → IsSoughtAt I plan l.0 l.1) (λ l e. e.sought) (leaves_of new) regrown.ended in
+    let sought : PlansWereSought I new plan = All-weaker (λ l. HasEnded I plan budget made l.0 l.1) (λ l. l.1.form ≡ Prices → 1 ≤ l.1.q → IsSoughtAt I plan l.0 l.1) (λ l e priced. e.sought) (leaves_of new) regrown.ended in
     record {
-      grown = subst (IsGrownFrom I (cost_in I handed) old) (sym answers.tree_is) regrown.grown;
+      grown =
+          subst (λ t. IsGrownFrom I (cost_in I handed) (cost_in I (plan_in a)) old t) (sym answers.tree_is)
+          (subst (λ p. IsGrownFrom I (cost_in I handed) (cost_in I p) old new) (sym answers.plan_is) regrown.grown);
       sought = subst (λ t. PlansWereSought I t (plan_in a)) (sym answers.tree_is) (subst (PlansWereSought I new) (sym answers.plan_is) sought);
       kept = subst (λ p. IsNoWorse I p handed) (sym answers.plan_is) later;
       accepted = answers.accepted;

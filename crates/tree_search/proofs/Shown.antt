@@ -7,8 +7,9 @@ use Rattle.std.proofs.lemmas.List.Elements.{All-cons, All-nil, All-weaker}
 use Rattle.location_terms.specs.Instance.{Instance}
 use Rattle.location_terms.specs.Plan.{Plan, IsFeasible}
 use Rattle.location_terms.specs.Box.{Path}
-use Rattle.location_terms.specs.Bound.{Duals, bound_of}
-use Rattle.location_terms.specs.Fit.{DualsFit, BoundCloses, Closes}
+use Rattle.location_terms.specs.Bound.{Duals}
+use Rattle.location_terms.specs.Fit.{BoundCloses}
+use Rattle.location_terms.specs.Leaf.{leaf_bound, LeafFits, LeafCloses}
 use Rattle.location_terms.specs.Tree.{Tree, IsTree, StandsOn, AllClose, leaves_of, low_of}
 use Rattle.location_terms.specs.Certificate.{Costs}
 use Rattle.plan_search.specs.InBox.{HasNoCaps}
@@ -25,11 +26,11 @@ closes_scaled bound q (Some T) some =
 
 module _ (I : Instance) (plan : Option Plan) (budget made : ℕ) where
   -- an ended leaf closes or is open, and then it has a scale and the budget is spent
-  ended_or_open : (path : Path) (d : Duals) → HasEnded I plan budget made path d → Closes I path d (cost_in I plan) ⊎ ((Closes I path d (cost_in I plan) → ⊥) × (1 ≤ d.q))
+  ended_or_open : (path : Path) (d : Duals) → HasEnded I plan budget made path d → LeafCloses I path d (cost_in I plan) ⊎ ((LeafCloses I path d (cost_in I plan) → ⊥) × (1 ≤ d.q))
   ended_or_open path d ended =
       elim (cases_eq d.q 0) [
         | inl unscaled ↦ inl (record { fit = ended.fit; closed = inl (unscaled, ended.ray unscaled) })
-        | inr scaled ↦ elim (closes_scaled (bound_of I path d) d.q (cost_in I plan) (omega (arith, scaled))) [
+        | inr scaled ↦ elim (closes_scaled (leaf_bound I path d) d.q (cost_in I plan) (omega (arith, scaled))) [
           | inl closed ↦ inl (record { fit = ended.fit; closed = closed })
           | inr fails ↦ inr ((λ closes. fails closes.closed), omega (arith, scaled))
         ]
@@ -39,7 +40,7 @@ module _ (I : Instance) (plan : Option Plan) (budget made : ℕ) where
     path : Path
     duals : Duals
     leaf : Contains leaves (path, duals)
-    unclosed : Closes I path duals (cost_in I plan) → ⊥
+    unclosed : LeafCloses I path duals (cost_in I plan) → ⊥
     spent : budget < made + 2
     some : HasNoCaps I → HasFreeCount I → IsSome plan
 
@@ -53,15 +54,15 @@ module _ (I : Instance) (plan : Option Plan) (budget made : ℕ) where
     some = found.some;
   }
 
-  spent_at : (path : Path) (d : Duals) → HasEnded I plan budget made path d → (Closes I path d (cost_in I plan) → ⊥) → budget < made + 2
+  spent_at : (path : Path) (d : Duals) → HasEnded I plan budget made path d → (LeafCloses I path d (cost_in I plan) → ⊥) → budget < made + 2
   spent_at path d ended unclosed = elim ended.ends [ inl closes ↦ absurd (unclosed (record { fit = ended.fit; closed = closes })) | inr spent ↦ spent ]
 
-  open_among : (ls : List (Path × Duals)) → All (λ l. HasEnded I plan budget made l.0 l.1) ls → (All (λ l. Closes I l.0 l.1 (cost_in I plan)) ls → ⊥) → IsOpenAmong ls
-  open_among [] ended fails = absurd (fails (All-nil (λ l. Closes I l.0 l.1 (cost_in I plan))))
+  open_among : (ls : List (Path × Duals)) → All (λ l. HasEnded I plan budget made l.0 l.1) ls → (All (λ l. LeafCloses I l.0 l.1 (cost_in I plan)) ls → ⊥) → IsOpenAmong ls
+  open_among [] ended fails = absurd (fails (All-nil (λ l. LeafCloses I l.0 l.1 (cost_in I plan))))
   open_among (l ∷ ls) ended fails =
       let here : HasEnded I plan budget made l.0 l.1 = ended 0 l (omega arith) in
       elim (ended_or_open l.0 l.1 here) [
-        | inl closes ↦ later l ls (open_among ls (λ k d b. ended (suc k) d (omega (arith, b))) (λ all. fails (All-cons (λ l. Closes I l.0 l.1 (cost_in I plan)) l ls closes all)))
+        | inl closes ↦ later l ls (open_among ls (λ k d b. ended (suc k) d (omega (arith, b))) (λ all. fails (All-cons (λ l. LeafCloses I l.0 l.1 (cost_in I plan)) l ls closes all)))
         | inr open_here ↦ record { path = l.0; duals = l.1; leaf = (0, omega arith, refl); unclosed = open_here.0; spent = spent_at l.0 l.1 here open_here.0; some = here.some open_here.1 }
       ]
 
@@ -70,14 +71,14 @@ module _ (I : Instance) (plan : Option Plan) (budget made : ℕ) where
   costs (Some P) feasible = (feasible, refl)
 
   module _ (t : Tree) (tree : IsTree t) (stands : StandsOn t I) (ended : HaveEnded I plan budget made t) where
-    pub ended_fit : All (λ l. DualsFit I l.1) (leaves_of t)
-    ended_fit = All-weaker (λ l. HasEnded I plan budget made l.0 l.1) (λ l. DualsFit I l.1) (λ l e. e.fit) (leaves_of t) ended
+    pub ended_fit : All (λ l. LeafFits I l.1) (leaves_of t)
+    ended_fit = All-weaker (λ l. HasEnded I plan budget made l.0 l.1) (λ l. LeafFits I l.1) (λ l e. e.fit) (leaves_of t) ended
 
     closes_at_low : AllClose I t (Some (low_of I t))
     closes_at_low =
         closes_against_low I t ended_fit
-        (All-weaker (λ l. HasEnded I plan budget made l.0 l.1) (λ l. l.1.q ≡ 0 → BoundCloses (bound_of I l.0 l.1) 0 None) (λ l e none. inl (refl, e.ray none)) (leaves_of t) ended)
-        (All-weaker (λ l. HasEnded I plan budget made l.0 l.1) (λ l. 1 ≤ l.1.q → (pos 0 -ℤ pos l.1.q) <ℤ bound_of I l.0 l.1) (λ l e scaled. e.above scaled) (leaves_of t) ended)
+        (All-weaker (λ l. HasEnded I plan budget made l.0 l.1) (λ l. l.1.q ≡ 0 → BoundCloses (leaf_bound I l.0 l.1) 0 None) (λ l e none. inl (refl, e.ray none)) (leaves_of t) ended)
+        (All-weaker (λ l. HasEnded I plan budget made l.0 l.1) (λ l. 1 ≤ l.1.q → (pos 0 -ℤ pos l.1.q) <ℤ leaf_bound I l.0 l.1) (λ l e scaled. e.above scaled) (leaves_of t) ended)
 
     pub bracket_answers : (low : ℕ) → low ≡ low_of I t → IfSome plan (IsFeasible I) → (AllClose I t (cost_in I plan) → ⊥) → Answers I t plan made budget (Bracket low plan t made)
     bracket_answers low is feasible fails =

@@ -1,5 +1,5 @@
 -- The ray of a customer without an allowed lane: its bound is 1 at scale 0.
-use Rattle.std.proofs.Common.{◌≡◌, ◌≢◌, ℕ, ◌*◌, ◌<◌, ◌≤◌, refl, inl, inr, sym, ap, subst, ◌∙◌, arith, Bool, true, false, length, ℤ, pos, ◌≤ℤ◌}
+use Rattle.std.proofs.Common.{◌≡◌, ◌≢◌, ℕ, ◌*◌, ◌<◌, ◌≤◌, refl, inl, inr, sym, ap, subst, ◌∙◌, arith, Bool, true, false, length, Option, ℤ, pos, ◌≤ℤ◌}
 use Rattle.std.specs.Prelude.{unsigned_abs, if◌then◌else◌}
 use Rattle.std.specs.Int.{int_min}
 use Rattle.std.proofs.lemmas.Int.{ints, clamps}
@@ -79,6 +79,6 @@ module _ (I : Instance) (path : Path) (j : ℕ) (within : j < length I.customers
         let free : 0 * I.hi ≡ 0 = omega arith in
         omega (arith, ints, values, shares, free)
 
-    pub ray_is_made : (old_path : Path) (old d : Duals) → d ≡ ray → IsMadeLeaf I old_path old path d
-    ray_is_made old_path old d is =
-        subst (IsMadeLeaf I old_path old path) (sym is) (record { fit = ray_fits; ray = λ _. omega (arith, ints, ray_bound); scaled = λ some. absurd (omega (arith, some)) })
+    pub ray_is_made : (cost : Option ℕ) (old_path : Path) (old d : Duals) → d ≡ ray → IsMadeLeaf I cost old_path old path d
+    ray_is_made cost old_path old d is =
+        subst (IsMadeLeaf I cost old_path old path) (sym is) (record { fit = ray_fits; ray = λ _. omega (arith, ints, ray_bound); scaled = λ some. absurd (omega (arith, some)) })

@@ -6,7 +6,7 @@ use Rattle.location_terms.specs.Instance.{Instance}
 use Rattle.location_terms.specs.Plan.{Plan, IsFeasible, cost_of}
 use Rattle.location_terms.specs.Box.{Path}
 use Rattle.location_terms.specs.Bound.{Duals}
-use Rattle.location_terms.specs.Fit.{DualsFit, Closes}
+use Rattle.location_terms.specs.Leaf.{LeafFits, LeafCloses}
 use Rattle.location_terms.specs.Tree.{Tree, StandsOn, leaves_of, nodes_of, low_of}
 use Rattle.location_terms.specs.Certificate.{Certificate, IsAccepted}
 use Rattle.plan_search.specs.InBox.{HasNoCaps, IsNoWorse}
@@ -38,13 +38,13 @@ most_decisions I = if has_cap I then length I.sites + length I.sites * length I.
 -- the list says of each leaf, in preorder, whether it closes against the target, or, where there is no target, without one
 pub record AreHeld (I : Instance) (t : Tree) (target : Option ℕ) (held : List Bool) : Type 0 where
   pub len : length held ≡ length (leaves_of t)
-  pub each : (k : ℕ) → IfSome (slice_get held k) (λ h. IfSome (slice_get (leaves_of t) k) (λ l. IsTrue h ↔ Closes I l.0 l.1 target))
+  pub each : (k : ℕ) → IfSome (slice_get held k) (λ h. IfSome (slice_get (leaves_of t) k) (λ l. IsTrue h ↔ LeafCloses I l.0 l.1 target))
 
 -- A search may start from this tree and handed plan, with this budget; the list says which leaves close against the plan's cost. That the
 -- instance is valid and the tree well formed is part of their types.
 pub record IsSearchStart (I : Instance) (old : Tree) (held : List Bool) (handed : Option Plan) (budget : ℕ) : Type 0 where
   pub stands : StandsOn old I
-  pub fit : All (λ l. DualsFit I l.1) (leaves_of old)
+  pub fit : All (λ l. LeafFits I l.1) (leaves_of old)
   pub few : IsWithin I (nodes_of old) ⊎ (nodes_of old ≡ 1)
   pub feasible : IfSome handed (IsFeasible I)
   pub each_told : AreHeld I old (cost_in I handed) held
@@ -87,7 +87,7 @@ pub record HasOpenLeaf (I : Instance) (t : Tree) (plan : Option Plan) : Type 0 w
   pub path : Path
   pub duals : Duals
   pub leaf : Contains (leaves_of t) (path, duals)
-  pub unclosed : Closes I path duals (cost_in I plan) → ⊥
+  pub unclosed : LeafCloses I path duals (cost_in I plan) → ⊥
 
 -- Why a search ends with a bracket: a leaf is open, and another split, which makes two nodes, would bring the nodes made above the
 -- budget. It has no plan only where capacities or the number of open sites may forbid one.
@@ -107,7 +107,7 @@ IsCauseOf I budget (Bracket low plan tree made) = IsBracketCause I budget low pl
 -- infeasible there is no feasible plan.
 pub record IsAnswerTo (I : Instance) (old : Tree) (handed : Option Plan) (budget : ℕ) (a : Answer) : Type 0 where
   -- the tree is the handed one, with each leaf that doesn't close against the handed plan's cost replaced
-  pub grown : IsGrownFrom I (cost_in I handed) old (tree_in a)
+  pub grown : IsGrownFrom I (cost_in I handed) (cost_in I (plan_in a)) old (tree_in a)
   pub sought : PlansWereSought I (tree_in a) (plan_in a)
   -- a handed plan is never lost
   pub kept : IsNoWorse I (plan_in a) handed

@@ -10,4 +10,3 @@ pub mod Best
 pub mod Searching
 pub mod Working
 pub mod Regrown
-pub mod InForms

@@ -1,5 +1,5 @@
--- What a search puts into the place of a leaf that is open: a tree whose leaves are at least as good as the plain ascent's, and
--- which splits no box that needs no split. The rule is the suite's own.
+-- What a search puts into the place of a leaf that is open: a tree whose leaves either close by whole knapsacks or are at least as good
+-- as the plain ascent's, and which splits no box that needs no split. The rule is the suite's own.
 use Rattle.std.specs.Prelude.{◌≡◌, ◌≢◌, ◌⊎◌, ℕ, Bool, ◌<◌, ◌≤◌, length, Contains, Option, Some, IfSome, is_some, IsTrue, IsFalse, pos, ◌≤ℤ◌, if◌then◌else◌}
 use Rattle.std.specs.List.{list_any}
 use Rattle.location_terms.specs.Instance.{Instance, site_at, customer_at}
@@ -9,7 +9,10 @@ use Rattle.location_terms.specs.declared.decision.Decision.TheVariants.{Yes}
 use Rattle.location_terms.specs.declared.split.Split.{Split}
 use Rattle.location_terms.specs.declared.split.Split.TheVariants.{Site, Lane}
 use Rattle.location_terms.specs.Bound.{Duals, bound_of}
+use Rattle.location_terms.specs.declared.form.LeafForm.{LeafForm}
+use Rattle.location_terms.specs.declared.form.LeafForm.TheVariants.{Prices, Whole}
 use Rattle.location_terms.specs.Fit.{DualsFit, AreTame, BoundCloses}
+use Rattle.location_terms.specs.Leaf.{LeafCloses}
 use Rattle.location_terms.specs.Tree.{Node}
 use Rattle.location_terms.specs.declared.limits.TheConstants.{MAX_SCALE}
 use Rattle.dual_ascent.specs.Levels.{servers}
@@ -47,7 +50,8 @@ abbrev pub AreServed : Instance → Path → Type 0
 AreServed I path = (j : ℕ) → j < length I.customers → length (servers I path j) ≢ 0
 
 -- A leaf of at least scale 1 in a box, made below a leaf whose path and duals are `old_path` and `old`: it is no weaker than the
--- plain ascent of its box, stronger where that gains, and no weaker than the leaf that it replaces.
+-- plain ascent of its box, stronger where that gains, and no weaker than the leaf that it replaces, where that one has prices too:
+-- prices may not reach the bound of whole knapsacks.
 pub record IsMadeAtScale (I : Instance) (old_path : Path) (old : Duals) (path : Path) (d : Duals) : Type 0 where
   -- a box in which some customer has no allowed lane gets a ray instead
   pub served : AreServed I path
@@ -58,14 +62,23 @@ pub record IsMadeAtScale (I : Instance) (old_path : Path) (old : Duals) (path : 
   pub is_plain : IsPlainAscent I path ascent
   pub plain : IsAtLeast (bound_of I path d) d.q (bound_of I path ascent) ascent.q
   pub gains : Gains I path ascent → IsGreater (bound_of I path d) d.q (bound_of I path ascent) ascent.q
-  pub replaced : AreTame I old → IsMadeScale I old.q → IsAtLeast (bound_of I path d) d.q (bound_of I old_path old) old.q
+  pub replaced : old.form ≡ Prices → AreTame I old → IsMadeScale I old.q → IsAtLeast (bound_of I path d) d.q (bound_of I old_path old) old.q
 
--- a leaf made in a box: a ray, that is duals of scale 0, which shows the box to be empty, or duals of scale 1 or more
-pub record IsMadeLeaf (I : Instance) (old_path : Path) (old : Duals) (path : Path) (d : Duals) : Type 0 where
+-- a leaf by prices made in a box: a ray, that is duals of scale 0, which shows the box to be empty, or duals of scale 1 or more
+pub record IsMadeByPrices (I : Instance) (old_path : Path) (old : Duals) (path : Path) (d : Duals) : Type 0 where
   pub fit : DualsFit I d
   -- at scale 0 it closes, whatever the target is
   pub ray : d.q ≡ 0 → pos 1 ≤ℤ bound_of I path d
   pub scaled : 1 ≤ d.q → IsMadeAtScale I old_path old path d
+
+-- A leaf made in a box, where the answer's plan costs this, if there is one. Of whole knapsacks nothing is asked but that they close with that cost or,
+-- at scale 0, without any: so a made leaf that is open has prices.
+abbrev pub IsMadeIn : LeafForm → Instance → Option ℕ → Path → Duals → Path → Duals → Type 0
+IsMadeIn Prices I cost old_path old path d = IsMadeByPrices I old_path old path d
+IsMadeIn Whole I cost old_path old path d = LeafCloses I path d cost
+
+abbrev pub IsMadeLeaf : Instance → Option ℕ → Path → Duals → Path → Duals → Type 0
+IsMadeLeaf I cost old_path old path d = IsMadeIn d.form I cost old_path old path d
 
 -- Splits.
 
@@ -109,6 +122,7 @@ IsOpenSplit I path (Lane s c) = IsOpenLane I path s c
 abbrev pub IsDueSplit : Instance → Option ℕ → Path → Split → Type 0
 IsDueSplit I target path split = NeedsSplit I target path × IsOpenSplit I path split
 
--- a tree whose root is the box of `path`, made for a leaf that had the duals `old` at `old_path`: each of its leaves is made for it, and each of its splits is due
-abbrev pub IsMade : Instance → Option ℕ → Path → Duals → Path → Node → Type 0
-IsMade I target old_path old = IsBuiltOf (IsMadeLeaf I old_path old) (IsDueSplit I target)
+-- a tree whose root is the box of `path`, made for a leaf that had the duals `old` at `old_path`, where the answer's plan costs `cost`: each of its leaves is made for it, and each of
+-- its splits is due
+abbrev pub IsMade : Instance → (target cost : Option ℕ) → Path → Duals → Path → Node → Type 0
+IsMade I target cost old_path old = IsBuiltOf (IsMadeLeaf I cost old_path old) (IsDueSplit I target)

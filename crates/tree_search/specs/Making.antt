@@ -4,6 +4,7 @@ use Rattle.std.specs.Prelude.{◌≡◌, ◌≤ℤ◌, ℕ, List, ℤ, Option, r
 use Rattle.std.specs.Coded.{Coded, code_by, coded_ℕ, coded_ℤ, coded_list, coded_option, coded×}
 use Rattle.location_terms.specs.Instance.{Instance}
 use Rattle.location_terms.specs.Box.{Path}
+use Rattle.location_terms.specs.declared.form.LeafForm.TheVariants.{Prices}
 use Rattle.location_terms.specs.Bound.{Duals, bound_of}
 use Rattle.location_terms.specs.Fit.{AreTame}
 use Rattle.dual_value.specs.Scales.{IsAtLeast}
@@ -56,10 +57,11 @@ pub record IsMaking (I : Instance) (old_path : Path) (old : Duals) (path : Path)
   pub plain_bound : m.plain_bound ≡ bound_of I path m.plain
   pub hint : m.hint ≡ tight_sites I path m.plain
   pub best_risen : HasAscended I path m.best
+  pub form : m.best.duals.form ≡ Prices
   pub bound : m.bound ≡ bound_of I path m.best.duals
   pub scale : IsMadeScale I m.best.duals.q
   pub above : IsAtLeast (bound_of I path m.best.duals) m.best.duals.q (bound_of I path m.plain) m.plain.q
-  pub replaced : AreTame I old → IsMadeScale I old.q → IsAtLeast (bound_of I path m.best.duals) m.best.duals.q (bound_of I old_path old) old.q
+  pub replaced : old.form ≡ Prices → AreTame I old → IsMadeScale I old.q → IsAtLeast (bound_of I path m.best.duals) m.best.duals.q (bound_of I old_path old) old.q
 
 -- it is making below some leaf
 abbrev pub Makes : Instance → Path → Making → Type 0

@@ -1,8 +1,9 @@
 -- For private functions alone: no public contract cites this page.
 -- When counting alone shows a box to be empty: a customer without an allowed lane, an opened site whose forced customers demand more
 -- than it holds, and too many opened or too few possible sites. Where none of these is so, no simple ray closes the box.
-use Rattle.std.specs.Prelude.{if◌then◌else◌, ◌≡◌, ℕ, ◌==◌, ◌<◌, ◌≤◌, ◌&&◌, not, Bool, IsTrue, length, filter, map, replicate, slice_set, sum_by, ℤ, pos}
+use Rattle.std.specs.Prelude.{if◌then◌else◌, ◌≡◌, ℕ, ◌==◌, ◌<◌, ◌≤◌, ◌&&◌, not, Bool, IsTrue, length, filter, map, replicate, slice_set, sum_by, Option, ℤ, pos}
 use Rattle.location_terms.specs.Instance.{Instance, site_at, customer_at}
+use Rattle.location_terms.specs.declared.form.LeafForm.TheVariants.{Prices}
 use Rattle.location_terms.specs.Bound.{Duals}
 use Rattle.location_terms.specs.Box.{Path, is_allowed, is_opened, is_closed, holds_demand}
 use Rattle.dual_ascent.specs.Levels.{site_places, customer_places, servers}
@@ -20,6 +21,7 @@ forced_demand I path i = sum_by (λ j. (customer_at I j).demand) (filter (is_for
 -- its ray: the price of the site's capacity is 1, and each dual is what a forced customer demands
 abbrev pub forced_ray : Instance → Path → ℕ → Duals
 forced_ray I path i = record {
+  form = Prices;
   q = 0;
   nu = pos 0;
   v = map (λ j. if is_forced I path i j then pos (customer_at I j).demand else pos 0) (customer_places I);
@@ -28,7 +30,7 @@ forced_ray I path i = record {
 
 -- the ray of a number of sites that is too great or too small: that number alone has a price
 abbrev pub count_ray : Instance → ℤ → Duals
-count_ray I nu = record { q = 0; nu = nu; v = replicate (length I.customers) (pos 0); u = replicate (length I.sites) 0 }
+count_ray I nu = record { form = Prices; q = 0; nu = nu; v = replicate (length I.customers) (pos 0); u = replicate (length I.sites) 0 }
 
 -- how many sites may be open
 abbrev pub possible_count : Instance → Path → ℕ
@@ -37,7 +39,7 @@ possible_count I path = length (filter (λ i. not (is_closed path (site_at I i))
 -- a ray of the box: duals of scale 0 that are a leaf made in it, whichever leaf they replace
 pub record IsRayIn (I : Instance) (path : Path) (d : Duals) : Type 0 where
   pub scale : d.q ≡ 0
-  pub made : (old_path : Path) (old : Duals) → IsMadeLeaf I old_path old path d
+  pub made : (cost : Option ℕ) (old_path : Path) (old : Duals) → IsMadeLeaf I cost old_path old path d
 
 -- counting alone doesn't show the box to be empty
 pub record IsRayless (I : Instance) (path : Path) : Type 0 where

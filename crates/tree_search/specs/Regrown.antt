@@ -4,8 +4,8 @@ use Rattle.std.specs.Prelude.{◌≡◌, ◌⊎◌, ℕ, ◌+◌, ◌*◌, ◌<�
 use Rattle.location_terms.specs.Instance.{Instance}
 use Rattle.location_terms.specs.Plan.{Plan}
 use Rattle.location_terms.specs.Box.{Path}
-use Rattle.location_terms.specs.Bound.{Duals, bound_of}
-use Rattle.location_terms.specs.Fit.{DualsFit, Closes}
+use Rattle.location_terms.specs.Bound.{Duals}
+use Rattle.location_terms.specs.Leaf.{leaf_bound, LeafFits, LeafCloses}
 use Rattle.location_terms.specs.Tree.{Node, Leaf, Tree, leaves_below, leaves_of, nodes_of}
 use Rattle.location_terms.specs.Certificate.{IsAccepted}
 use Rattle.plan_search.specs.InBox.{IsPathOf, HasNoCaps}
@@ -19,13 +19,13 @@ use Rattle.tree_search.specs.Working.{ClosesWith, IsSoughtAt, IsGrownPart}
 -- a leaf that may be worked
 pub record IsKnownLeaf (I : Instance) (path : Path) (d : Duals) : Type 0 where
   pub known : IsPathOf I path
-  pub fit : DualsFit I d
+  pub fit : LeafFits I d
 
 -- a leaf that isn't worked again: plans were sought for it, and it closes, or one split more passes the budget
 pub record HasEnded (I : Instance) (plan : Option Plan) (budget made : ℕ) (path : Path) (d : Duals) : Type 0 where
-  pub fit : DualsFit I d
-  pub ray : d.q ≡ 0 → pos 1 ≤ℤ bound_of I path d
-  pub above : 1 ≤ d.q → (pos 0 -ℤ pos d.q) <ℤ bound_of I path d
+  pub fit : LeafFits I d
+  pub ray : d.q ≡ 0 → pos 1 ≤ℤ leaf_bound I path d
+  pub above : 1 ≤ d.q → (pos 0 -ℤ pos d.q) <ℤ leaf_bound I path d
   pub some : 1 ≤ d.q → HasNoCaps I → HasFreeCount I → IsSome plan
   pub sought : 1 ≤ d.q → IsSoughtAt I plan path d
   pub ends : ClosesWith I plan path d ⊎ (budget < made + 2)
@@ -35,7 +35,7 @@ HaveEnded I plan budget made t = All (λ l. HasEnded I plan budget made l.0 l.1)
 
 -- a leaf of the old tree and what stands in its place
 pub record IsRenewed (I : Instance) (handed plan : Option Plan) (budget made : ℕ) (path : Path) (d : Duals) (new : Node) : Type 0 where
-  pub grown : (Closes I path d (cost_in I handed) × (new ≡ Leaf d)) ⊎ ((Closes I path d (cost_in I handed) → ⊥) × IsMade I (cost_in I handed) path d path new)
+  pub grown : (LeafCloses I path d (cost_in I handed) × (new ≡ Leaf d)) ⊎ ((LeafCloses I path d (cost_in I handed) → ⊥) × IsMade I (cost_in I handed) (cost_in I plan) path d path new)
   pub ended : All (λ l. HasEnded I plan budget made l.0 l.1) (leaves_below path new)
 
 -- each part has R with the leaf in whose place it stands: the first leaves, as many as there are parts
@@ -61,7 +61,7 @@ pub record IsGrownAt (I : Instance) (old : Renewing) (handed plan : Option Plan)
 
 -- the tree once each leaf was looked at
 pub record IsRegrownFrom (I : Instance) (old : Tree) (handed plan : Option Plan) (budget : ℕ) (new : Tree) (made : ℕ) : Type 0 where
-  pub grown : IsGrownFrom I (cost_in I handed) old new
+  pub grown : IsGrownFrom I (cost_in I handed) (cost_in I plan) old new
   pub ended : HaveEnded I plan budget made new
   pub count : nodes_of new ≡ nodes_of old + made
   pub within : made ≤ budget

@@ -4,8 +4,10 @@ use Rattle.std.specs.Prelude.{◌≡◌, ◌⊎◌, ℕ, ◌+◌, ◌-◌, ◌<�
 use Rattle.location_terms.specs.Instance.{Instance, site_ids, customer_ids, site_at}
 use Rattle.location_terms.specs.Plan.{Plan, cost_of}
 use Rattle.location_terms.specs.Box.{Path, is_free}
-use Rattle.location_terms.specs.Bound.{Duals, bound_of}
-use Rattle.location_terms.specs.Fit.{DualsFit, BoundCloses}
+use Rattle.location_terms.specs.Bound.{Duals}
+use Rattle.location_terms.specs.declared.form.LeafForm.TheVariants as forms
+use Rattle.location_terms.specs.Fit.{BoundCloses}
+use Rattle.location_terms.specs.Leaf.{leaf_bound, LeafFits, LeafCloses}
 use Rattle.location_terms.specs.Tree.{Tree, nodes_of}
 use Rattle.dual_adjust.specs.Slackness.{tight_sites}
 use Rattle.plan_search.specs.InBox.{IsPathOf, IsNoWorse}
@@ -14,6 +16,8 @@ use Rattle.location_terms.specs.declared.split.Split.{Split}
 use Rattle.branch_tree.specs.Growing.{Growing}
 use Rattle.branch_tree.specs.Built.{IsBuiltOf, IsBuiltIn, IsDoneIn}
 use Rattle.dual_ascent.specs.Levels.{servers}
+use Rattle.tree_search.specs.declared.strengthen.Tried.{Tried}
+use Rattle.tree_search.specs.declared.strengthen.Tried.TheVariants.{More, Last, Whole}
 use Rattle.tree_search.specs.Made.{has_cap, IsMadeLeaf, NeedsSplit, IsOpenSplit, IsDueSplit}
 use Rattle.tree_search.specs.Making.{LowersNone}
 use Rattle.tree_search.specs.Answer.{cost_in}
@@ -22,7 +26,18 @@ use Rattle.tree_search.specs.Answer.{cost_in}
 
 -- the duals close the box against the plan's cost, or without a plan
 abbrev pub ClosesWith : Instance → Option Plan → Path → Duals → Type 0
-ClosesWith I plan path d = BoundCloses (bound_of I path d) d.q (cost_in I plan)
+ClosesWith I plan path d = BoundCloses (leaf_bound I path d) d.q (cost_in I plan)
+
+-- the duals close the box by whole knapsacks
+pub record IsWholeLeaf (I : Instance) (plan : Option Plan) (path : Path) (d : Duals) : Type 0 where
+  pub form : d.form ≡ forms.Whole
+  pub closes : LeafCloses I path d (cost_in I plan)
+
+-- what is told of a move: duals that close the box by whole knapsacks, or nothing
+abbrev pub Tells : Instance → Option Plan → Path → Tried → Type 0
+Tells I plan path More = Unit {0}
+Tells I plan path Last = Unit {0}
+Tells I plan path (Whole d) = IsWholeLeaf I plan path d
 
 -- the plan costs at most as much as what is packed at the tight sites of these duals
 abbrev pub IsSoughtAt : Instance → Option Plan → Path → Duals → Type 0
@@ -49,7 +64,7 @@ pub record IsVerdict (I : Instance) (plan : Option Plan) (may_split : Bool) (pat
 
 -- what working a box gives: the duals of a leaf that is made, and how the box is to be split
 pub record IsWorked (I : Instance) (plan : Option Plan) (may_split : Bool) (old : Duals) (path : Path) (d : Duals) (split : Option Split) : Type 0 where
-  pub made : (old_path : Path) → LowersNone I old_path path → IsMadeLeaf I old_path old path d
+  pub made : (old_path : Path) → LowersNone I old_path path → IsMadeLeaf I (cost_in I plan) old_path old path d
   pub sought : 1 ≤ d.q → IsSoughtAt I plan path d
   pub whole : split ≡ None → ClosesWith I plan path d ⊎ IsFalse may_split
   pub halved : IfSome split (λ s. IsTrue may_split × IsOpenSplit I path s × ((handed : Option Plan) → IsNoWorse I plan handed → NeedsSplit I (cost_in I handed) path))
@@ -58,7 +73,7 @@ pub record IsWorked (I : Instance) (plan : Option Plan) (may_split : Bool) (old 
 
 -- a leaf that is done: it is made, plans were sought for it, and it closes, or one split more passes the limit of nodes
 pub record IsDoneLeaf (I : Instance) (base : Path) (old : Duals) (plan : Option Plan) (limit nodes : ℕ) (path : Path) (d : Duals) : Type 0 where
-  pub made : IsMadeLeaf I base old path d
+  pub made : IsMadeLeaf I (cost_in I plan) base old path d
   pub sought : 1 ≤ d.q → IsSoughtAt I plan path d
   pub ends : ClosesWith I plan path d ⊎ (limit < nodes + 2)
 
@@ -66,7 +81,7 @@ pub record IsDoneLeaf (I : Instance) (base : Path) (old : Duals) (plan : Option 
 pub record IsReached (I : Instance) (base : Path) (path : Path) (d : Duals) : Type 0 where
   pub known : IsPathOf I path
   pub lowers : LowersNone I base path
-  pub fit : DualsFit I d
+  pub fit : LeafFits I d
 
 abbrev pub AnySplit : Path → Split → Type 0
 AnySplit path split = Unit {0}

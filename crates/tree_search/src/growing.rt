@@ -1,7 +1,7 @@
 //! The growth of a tree.
 ghost use Rattle.std.specs.Prelude.{◌≡◌, ℕ, ◌+◌, ◌^◌, ◌<◌, ◌≤◌, All, IfOk, IfSome, OnOk, length, slice_get};
 ghost use Rattle.location_terms.specs.Instance.{site_ids, customer_ids};
-ghost use Rattle.location_terms.specs.Fit.{DualsFit};
+ghost use Rattle.location_terms.specs.Leaf.{LeafFits};
 ghost use Rattle.location_terms.specs.Tree.{StandsOn, leaves_of, nodes_of};
 ghost use Rattle.lane_order.specs.Order.{IsOrderOf};
 ghost use Rattle.tree_search.specs.Answer.{AreHeld, IsSearchStart, IsAnswerTo, cost_in};
@@ -58,7 +58,7 @@ fn grow_open<S: Strategy>(
     budget: u32,
 ) -> Result<(Tree, u32), NoMemory>
     requires stands { StandsOn tree search.old.best.instance }
-    requires fit { All (λ l. DualsFit search.old.best.instance l.1) (leaves_of tree) }
+    requires fit { All (λ l. LeafFits search.old.best.instance l.1) (leaves_of tree) }
     requires held { AreHeld search.old.best.instance tree (cost_in search.old.best.instance search.old.best.plan) held.now }
     requires few { nodes_of tree + budget + 3 < 2 ^ 32 }
     ensures plan { OnOk result (Improves search.old.best search.new.best) }

@@ -15,8 +15,8 @@ ghost use Rattle.tree_search.specs.declared.answer.Answer.{Answer as Reply};
 /// of so many nodes for each of these leaves the answer is no bracket: a plan is shown to be optimal, or
 /// the instance to have none.
 pub fn searches_end()
-    ensures small { (I : Instance) (target : Option ℕ) (old new : Boxes) (held : List Bool) →
-        AreHeld I old target held → IsGrownFrom I target old new →
+    ensures small { (I : Instance) (target cost : Option ℕ) (old new : Boxes) (held : List Bool) →
+        AreHeld I old target held → IsGrownFrom I target cost old new →
         nodes_of new + 2 * length (filter not held) ≤ nodes_of old + length (filter not held) * 2 ^ (most_decisions I + 1) }
     ensures decided { (I : Instance) (old : Boxes) (handed : Option Chosen) (budget : ℕ) (held : List Bool) (a : Reply) →
         AreHeld I old (cost_in I handed) held → IsAnswerTo I old handed budget a →

@@ -3,6 +3,7 @@ ghost use Rattle.std.specs.Prelude.{◌≡◌, ◌+◌, ◌^◌, ◌<◌, ◌≤
 ghost use Rattle.location_terms.specs.Plan.{Plan as Meaning};
 ghost use Rattle.location_terms.specs.Box.{Path as Decisions};
 ghost use Rattle.location_terms.specs.Fit.{DualsFit};
+ghost use Rattle.location_terms.specs.Leaf.{LeafFits};
 ghost use Rattle.plan_search.specs.InBox.{IsPathOf};
 ghost use Rattle.tree_search.specs.Best.{Improves};
 ghost use Rattle.tree_search.specs.Working.{IsGrowing, IsGrownPart, steps_left};
@@ -25,7 +26,7 @@ pub(crate) fn grow_leaf<'a, S: Strategy>(
     limit: u32,
 ) -> Result<Growth<'a>, NoMemory>
     requires path { IsPathOf search.old.best.instance path.now }
-    requires replaced { DualsFit search.old.best.instance replaced.now }
+    requires replaced { LeafFits search.old.best.instance replaced.now }
     requires some { 1 ≤ limit }
     requires few { limit + 2 < 2 ^ 32 }
     ensures plan { OnOk result (Improves search.old.best search.new.best) }

@@ -1,20 +1,21 @@
 //! The duals of a leaf while it is made.
 ghost use Rattle.std.specs.Prelude.{◌≡◌, ◌↔◌, ◌⊎◌, IfOk, OnOk, IsTrue};
 ghost use Rattle.location_terms.specs.Box.{Path as Decisions};
-ghost use Rattle.location_terms.specs.Bound.{Duals as Prices, bound_of};
+ghost use Rattle.location_terms.specs.declared.form.LeafForm.TheVariants.{Prices};
+ghost use Rattle.location_terms.specs.Bound.{Duals as Numbers, bound_of};
 ghost use Rattle.location_terms.specs.Fit.{DualsFit, AreTame, BoundCloses};
 ghost use Rattle.lane_order.specs.Order.{IsOrderOf};
 ghost use Rattle.dual_adjust.specs.Slackness.{tight_sites};
 ghost use Rattle.dual_value.specs.Scales.{IsAtLeast};
 ghost use Rattle.dual_value.specs.Zeros.{zeros};
-ghost use Rattle.tree_search.specs.Made.{AreServed, IsMadeLeaf, IsMadeScale, plain_scale};
+ghost use Rattle.tree_search.specs.Made.{AreServed, IsMadeByPrices, IsMadeScale, plain_scale};
 ghost use Rattle.tree_search.specs.Making.{LowersNone, IsMakerFor, IsMaking, Makes, StaysMaking};
 
 use dual_adjust::{Trials, adjust_once};
 use dual_value::{Duals, PreparedBox, closes, is_greater, tame};
 use instance_store::{Instance, NoMemory, SiteId};
 use lane_order::LaneOrder;
-use location_terms::MAX_SCALE;
+use location_terms::{LeafForm, MAX_SCALE};
 use plan_search::has_no_caps;
 use std::alloc::Global;
 use std::marker::Model;
@@ -127,7 +128,7 @@ impl LeafMaker {
         requires fit { DualsFit boxed.now.instance duals.now }
         requires making { Makes boxed.now.instance boxed.now.path self.old }
         ensures stays { StaysMaking boxed.now.instance boxed.now.path self.old self.new }
-        ensures taken { AreTame boxed.now.instance duals.now → IsMadeScale boxed.now.instance duals.now.q →
+        ensures taken { duals.now.form ≡ Prices → AreTame boxed.now.instance duals.now → IsMadeScale boxed.now.instance duals.now.q →
             IsAtLeast (bound_of boxed.now.instance boxed.now.path self.new.best.duals) self.new.best.duals.q (bound_of boxed.now.instance boxed.now.path duals.now) duals.now.q }
         ensures zeros { self.new.zeros ≡ self.old.zeros }
     {
@@ -151,9 +152,9 @@ impl LeafMaker {
         requires order { IsOrderOf order.now boxed.now.instance }
         requires making { Makes boxed.now.instance boxed.now.path self.old }
         ensures stays { StaysMaking boxed.now.instance boxed.now.path self.old self.new }
-        ensures made { (old_path : Decisions) → (old : Prices) → AreServed boxed.now.instance boxed.now.path →
+        ensures made { (old_path : Decisions) → (old : Numbers) → AreServed boxed.now.instance boxed.now.path →
             IsMaking boxed.now.instance old_path old boxed.now.path self.old →
-            IsMadeLeaf boxed.now.instance old_path old boxed.now.path self.new.best.duals }
+            IsMadeByPrices boxed.now.instance old_path old boxed.now.path self.new.best.duals }
         ensures zeros { self.new.zeros ≡ self.old.zeros }
     {
         if is_greater(
@@ -217,10 +218,13 @@ impl LeafMaker {
     }
 }
 
-// Whether these are the same duals.
+// Whether these are the same duals, in the same form.
 fn are_same(duals: &Duals, other: &Duals) -> bool
     ensures { IsTrue result → duals.now ≡ other.now }
 {
+    if duals.form() != other.form() {
+        return false;
+    }
     if duals.q() != other.q() {
         return false;
     }
@@ -233,14 +237,14 @@ fn are_same(duals: &Duals, other: &Duals) -> bool
     duals.prices() == other.prices()
 }
 
-// Whether an ascent may start from these duals, and its leaf may be made. `plain` is the scale of the
+// Whether an ascent may start from these duals, which are by prices, and its leaf may be made. `plain` is the scale of the
 // plain ascents.
 fn is_usable(duals: &Duals, inst: &Instance, plain: u32) -> bool
     requires fit { DualsFit inst.now duals.now }
     requires plain { plain ≡ plain_scale inst.now }
-    ensures { IsTrue result ↔ (AreTame inst.now duals.now × IsMadeScale inst.now duals.now.q) }
+    ensures { IsTrue result ↔ ((duals.now.form ≡ Prices) × AreTame inst.now duals.now × IsMadeScale inst.now duals.now.q) }
 {
-    is_made_scale(duals.q(), plain) && tame(duals, inst)
+    duals.form() == LeafForm::Prices && is_made_scale(duals.q(), plain) && tame(duals, inst)
 }
 
 fn is_made_scale(q: u32, plain: u32) -> bool

@@ -1,19 +1,24 @@
 //! What a search has in hand from box to box.
 ghost use Rattle.std.specs.Prelude.{◌≡◌, ◌↔◌, IfOk, IfSome, IsTrue};
 ghost use Rattle.location_terms.specs.Plan.{IsFeasible};
+ghost use Rattle.location_terms.specs.declared.form.LeafForm.TheVariants.{Whole};
 ghost use Rattle.location_terms.specs.Fit.{BoundCloses, DualsFit};
+ghost use Rattle.location_terms.specs.Leaf.{LeafFits};
 ghost use Rattle.lane_order.specs.Order.{IsOrderOf};
 ghost use Rattle.plan_search.specs.InBox.{IsNoWorse};
 ghost use Rattle.strategy_port.specs.Scene.{IsScene};
 ghost use Rattle.tree_search.specs.Answer.{cost_in};
 ghost use Rattle.tree_search.specs.Best.{Improves};
-ghost use Rattle.tree_search.specs.Searching.{GoesOn, IsAt};
+ghost use Rattle.tree_search.specs.Searching.{GoesOn, IsSearchAt};
+ghost use Rattle.tree_search.specs.Working.{IsWholeLeaf};
 
 use crate::incumbent::Incumbent;
 use crate::leaf_maker::LeafMaker;
-use dual_value::{BoxBounds, Duals, PreparedBox, fits};
+use dual_value::{Duals, PreparedBox, fits};
 use instance_store::{Instance, NoMemory};
 use lane_order::LaneOrder;
+use leaf_bounds::LeafBounds;
+use location_terms::LeafForm;
 use plan_meaning::{Plan, judge};
 use std::alloc::Global;
 use std::marker::Model;
@@ -26,6 +31,7 @@ pub(crate) struct Search<'a> {
     pub(crate) order: &'a LaneOrder,
     pub(crate) leaf: LeafMaker,
     incumbent: Incumbent<'a>,
+    bounds: LeafBounds<'a>,
     // In how many boxes a strategy was asked.
     asked: u32,
 }
@@ -39,7 +45,7 @@ impl<'a> Model for Search<'a> {
 
     ghost view = { λ a. record { best = a.incumbent; leaf = a.leaf } };
 
-    ghost invariant = { λ a. IsSearch a.order.now a.incumbent a.leaf };
+    ghost invariant = { λ a. IsSearch a.order.now a.incumbent a.leaf a.bounds };
 }
 
 impl<'a> Search<'a> {
@@ -58,11 +64,13 @@ impl<'a> Search<'a> {
     {
         let incumbent = Incumbent::of(inst, plan);
         let leaf = LeafMaker::of(alloc, inst)?;
+        let bounds = LeafBounds::by_order(alloc, inst, order);
         Ok(Search {
             alloc,
             order,
             leaf,
             incumbent,
+            bounds,
             asked: 0,
         })
     }
@@ -75,11 +83,11 @@ impl<'a> Search<'a> {
         self.incumbent.instance()
     }
 
-    /// The bounds of boxes of the instance, by its order.
-    pub(crate) fn bounds(&self) -> BoxBounds<'a>
+    /// New bounds of leaves of the instance, by its order.
+    pub(crate) fn bounds(&self) -> LeafBounds<'a>
         ensures { result ≡ self.now.best.instance }
     {
-        BoxBounds::by_order(self.alloc, self.incumbent.instance(), self.order)
+        LeafBounds::by_order(self.alloc, self.incumbent.instance(), self.order)
     }
 
     /// What the best plan costs, in millionths.
@@ -108,7 +116,7 @@ impl<'a> Search<'a> {
 
     /// Proposes duals for the leaf at work: it takes their ascent where that is in range and better.
     pub(crate) fn propose(&mut self, boxed: &PreparedBox<'_>, duals: &Duals)
-        requires { IsAt boxed.now self.old }
+        requires { IsSearchAt boxed.now self.old }
         ensures { GoesOn boxed.now self.old self.new }
     {
         if !is_fit(duals, boxed.instance()) {
@@ -117,9 +125,27 @@ impl<'a> Search<'a> {
         self.leaf.take(boxed, self.order, duals);
     }
 
+    /// Whether these duals take whole knapsacks, suit them, and close the box against what the best plan costs: they
+    /// may then be the leaf. It fails only where memory runs out.
+    pub(crate) fn closes_whole(
+        &mut self,
+        boxed: &PreparedBox<'_>,
+        duals: &Duals,
+    ) -> Result<bool, NoMemory>
+        requires { IsSearchAt boxed.now self.old }
+        ensures whole { IfOk result (λ yes. IsTrue yes → IsWholeLeaf boxed.now.instance self.old.best.plan boxed.now.path duals.now) }
+        ensures kept { self.new ≡ self.old }
+    {
+        if !is_whole(duals, boxed.instance(), &self.bounds) {
+            return Ok(false);
+        }
+        let cost = self.incumbent.cost();
+        self.bounds.closes_in(boxed, duals, cost)
+    }
+
     /// Proposes a plan: it becomes the best one where it is feasible and costs less.
     pub(crate) fn propose_plan(&mut self, boxed: &PreparedBox<'_>, plan: Plan)
-        requires { IsAt boxed.now self.old }
+        requires { IsSearchAt boxed.now self.old }
         ensures { GoesOn boxed.now self.old self.new }
     {
         if judge(boxed.instance(), &plan).is_ok() {
@@ -136,7 +162,7 @@ impl<'a> Search<'a> {
 
     /// The leaf at work, as a strategy sees it.
     pub(crate) fn scene<'s, 'b>(&'s self, boxed: &'b PreparedBox<'b>) -> Scene<'s, 'b>
-        requires { IsAt boxed.now self.now }
+        requires { IsSearchAt boxed.now self.now }
         ensures { IsScene result }
     {
         Scene {
@@ -170,4 +196,19 @@ pub(crate) fn is_fit(duals: &Duals, inst: &Instance) -> bool
         return false;
     }
     fits(duals, inst).is_ok()
+}
+
+// Whether the duals are for as many sites and customers as the instance has, take whole knapsacks, and suit them.
+fn is_whole(duals: &Duals, inst: &Instance, bounds: &LeafBounds<'_>) -> bool
+    requires { bounds.now ≡ inst.now }
+    ensures form { IsTrue result → duals.now.form ≡ Whole }
+    ensures fit { IsTrue result → LeafFits inst.now duals.now }
+{
+    if duals.form() != LeafForm::Whole {
+        return false;
+    }
+    if duals.customers() != inst.custs() || duals.sites() != inst.sites() {
+        return false;
+    }
+    bounds.fits(duals).is_ok()
 }

@@ -1,51 +1,76 @@
 //! What makes an open leaf stronger, and finds plans: moves that a strategy proposes.
-ghost use Rattle.std.specs.Prelude.{OnOk};
-ghost use Rattle.tree_search.specs.Searching.{IsAt, GoesOn};
+ghost use Rattle.std.specs.Prelude.{IfOk, IfSome, OnOk};
+ghost use Rattle.tree_search.specs.Searching.{IsSearchAt, GoesOn};
+ghost use Rattle.tree_search.specs.Working.{Tells, IsWholeLeaf};
 
 use crate::search::Search;
-use dual_value::PreparedBox;
+use dual_value::{Duals, PreparedBox};
 use instance_store::NoMemory;
 use strategy_port::{Move, Strategy};
 
 // The most moves in a box: more than any strategy needs, so that each comes to an end.
 const MAX_MOVES: u32 = 100_000;
 
+// What a move comes to.
+#[derive(Drop)]
+enum Tried {
+    // The strategy may have more.
+    More,
+    // The strategy has no more.
+    Last,
+    // These duals close the box by whole knapsacks.
+    Whole(Duals),
+}
+
 /// Makes an open leaf stronger, and looks for better plans, by what the strategy proposes, while the leaf is open.
-/// It fails only where memory runs out.
+/// Where whole knapsacks close the box, the answer is their duals. It fails only where memory runs out.
 pub(crate) fn strengthen<S: Strategy>(
     search: &mut Search<'_>,
     strategy: &mut S,
     boxed: &PreparedBox<'_>,
-) -> Result<(), NoMemory>
-    requires { IsAt boxed.now search.old }
-    ensures { OnOk result (GoesOn boxed.now search.old search.new) }
+) -> Result<Option<Duals>, NoMemory>
+    requires { IsSearchAt boxed.now search.old }
+    ensures on { OnOk result (GoesOn boxed.now search.old search.new) }
+    ensures whole { IfOk result (λ found. IfSome found (IsWholeLeaf boxed.now.instance search.new.best.plan boxed.now.path)) }
 {
     search.begin_asking();
     strategy.enter(&search.scene(boxed));
     for _turn in 0..MAX_MOVES {
         let next = strategy.next(&search.scene(boxed))?;
-        if !try_move(search, boxed, next) || search.closes() {
-            return Ok(());
+        match try_move(search, boxed, next)? {
+            Tried::Whole(duals) => return Ok(Some(duals)),
+            Tried::Last => return Ok(None),
+            Tried::More => {}
+        }
+        if search.closes() {
+            return Ok(None);
         }
     }
-    Ok(())
+    Ok(None)
 }
 
-// Tries what the strategy proposes. Whether it has more.
-fn try_move(search: &mut Search<'_>, boxed: &PreparedBox<'_>, next: Move) -> bool
-    requires { IsAt boxed.now search.old }
-    ensures { GoesOn boxed.now search.old search.new }
+// Tries what the strategy proposes. It fails only where memory runs out.
+fn try_move(search: &mut Search<'_>, boxed: &PreparedBox<'_>, next: Move) -> Result<Tried, NoMemory>
+    requires { IsSearchAt boxed.now search.old }
+    ensures on { OnOk result (GoesOn boxed.now search.old search.new) }
+    ensures whole { IfOk result (Tells boxed.now.instance search.new.best.plan boxed.now.path) }
 {
     match next {
         Move::Duals(duals) => {
             search.propose(boxed, &duals);
-            true
+            Ok(Tried::More)
+        }
+        Move::Whole(duals) => {
+            if search.closes_whole(boxed, &duals)? {
+                return Ok(Tried::Whole(duals));
+            }
+            Ok(Tried::More)
         }
         Move::Plan(plan) => {
             search.propose_plan(boxed, plan);
-            true
+            Ok(Tried::More)
         }
-        Move::Nothing => true,
-        Move::Done => false,
+        Move::Nothing => Ok(Tried::More),
+        Move::Done => Ok(Tried::Last),
     }
 }

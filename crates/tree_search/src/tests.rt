@@ -1,28 +1,81 @@
+ghost use Rattle.strategy_port.specs.Scene.{IsScene};
 ghost use Rattle.tree_search.specs.Answer.{IsWithin};
 
 use crate::{Answer, PlainStrategy, Tree, grow, max_nodes};
+use dual_value::Duals;
 use example_instances::{ring, road, warehouses};
 use instance_store::{Instance, NoMemory};
 use lane_order::LaneOrder;
+use location_terms::{CustId, LeafForm, SiteId};
+use plan_meaning::Plan;
 use std::alloc::Global;
 use std::test::Fail;
+use strategy_port::{Move, Scene, Strategy, Wish};
 
-// What the plain search from one leaf of zeros answers.
-fn searched(alloc: Global, inst: &Instance, budget: u32) -> Result<Answer, NoMemory>
+// Proposes the one plan of two warehouses, each of which serves the other customer, and then these duals for whole
+// knapsacks, in each box.
+#[derive(Drop)]
+struct OneWhole {
+    values: [i128; 2],
+    turn: u32,
+}
+
+impl Strategy for OneWhole {
+    fn enter(&mut self, _scene: &Scene<'_, '_>) {
+        self.turn = 0;
+    }
+
+    fn next(&mut self, scene: &Scene<'_, '_>) -> Result<Move, NoMemory>
+        requires { IsScene scene.now }
+    {
+        let turn = self.turn;
+        self.turn = turn.saturating_add(1);
+        match turn {
+            0 => crossed(scene.alloc),
+            1 => {
+                let values = Vec::from_array(scene.alloc, self.values)?;
+                let inst = scene.boxed.instance();
+                Ok(Move::Whole(Duals::whole(scene.alloc, inst, 1000, 0, values)?))
+            }
+            _ => Ok(Move::Done),
+        }
+    }
+
+    fn wish(&mut self, _scene: &Scene<'_, '_>) -> Option<Wish>
+        requires { IsScene _scene.now }
+    {
+        None
+    }
+}
+
+// The plan in which the first site serves the second customer, and the second site the first one.
+fn crossed(alloc: Global) -> Result<Move, NoMemory> {
+    let sites = Vec::from_array(alloc, [SiteId::new(1), SiteId::new(2)])?;
+    let serves = Vec::from_array(
+        alloc,
+        [
+            (CustId::new(1), SiteId::new(2)),
+            (CustId::new(2), SiteId::new(1)),
+        ],
+    )?;
+    match Plan::new(sites, serves) {
+        Some(plan) => Ok(Move::Plan(plan)),
+        None => Ok(Move::Done),
+    }
+}
+
+// What a search from one leaf of zeros answers.
+fn searched<S: Strategy>(
+    alloc: Global,
+    inst: &Instance,
+    strategy: &mut S,
+    budget: u32,
+) -> Result<Answer, NoMemory>
     requires { IsWithin inst.now budget }
 {
     let order = LaneOrder::of(alloc, inst)?;
     let tree = Tree::root(alloc, inst)?;
-    grow(
-        alloc,
-        inst,
-        &order,
-        &mut PlainStrategy,
-        tree,
-        &[false],
-        None,
-        budget,
-    )
+    grow(alloc, inst, &order, strategy, tree, &[false], None, budget)
 }
 
 // Whether the search came to an end, and the least cost that it leaves: 0 where no plan is feasible.
@@ -34,7 +87,7 @@ fn claimed(answer: Answer) -> (bool, u64) {
     }
 }
 
-// Whether a search with this budget comes to an end or not, as it should, with a cost between these.
+// Whether a plain search with this budget comes to an end or not, as it should, with a cost between these.
 fn claims(
     alloc: Global,
     inst: &Instance,
@@ -46,7 +99,7 @@ fn claims(
     if budget > max_nodes(inst) {
         return Ok(false);
     }
-    let (ended, cost) = claimed(searched(alloc, inst, budget)?);
+    let (ended, cost) = claimed(searched(alloc, inst, &mut PlainStrategy, budget)?);
     Ok(ended == ends && least <= cost && cost <= most)
 }
 
@@ -66,5 +119,42 @@ fn keeps_capacities_and_counts(rt: HostRuntime) -> Result<(), Fail> {
     assert!(rt; claims(rt.alloc(), &two, 127, true, 7_504_750_000, 7_504_750_000)?);
     let four = road(rt.alloc(), 4, 4, 0)?;
     assert!(rt; claims(rt.alloc(), &four, 1, true, 0, 0)?);
+    Ok(())
+}
+
+// Whether whole knapsacks of these values, a thousandth of a millionth each, show the least cost without a split.
+fn closes_whole(
+    alloc: Global,
+    inst: &Instance,
+    values: [i128; 2],
+    cost: u64,
+) -> Result<bool, NoMemory> {
+    if max_nodes(inst) < 1 {
+        return Ok(false);
+    }
+    let mut strategy = OneWhole { values, turn: 0 };
+    match searched(alloc, inst, &mut strategy, 1)? {
+        Answer::Optimal {
+            cost: found,
+            tree,
+            ..
+        } => Ok(found == cost && tree.nodes() == 1 && is_whole(&tree)),
+        _ => Ok(false),
+    }
+}
+
+// Whether the first leaf takes whole knapsacks.
+fn is_whole(tree: &Tree) -> bool {
+    match tree.duals(0) {
+        Some(duals) => duals.form() == LeafForm::Whole,
+        None => false,
+    }
+}
+
+#[test]
+fn whole_knapsacks_close_a_leaf(rt: HostRuntime) -> Result<(), Fail> {
+    let two = warehouses(rt.alloc())?;
+    let values = [7_500_250_000_000, 7_503_000_000_000];
+    assert!(rt; closes_whole(rt.alloc(), &two, values, 7_504_750_000)?);
     Ok(())
 }

@@ -7,9 +7,9 @@ ghost use Rattle.plan_search.specs.InBox.{IsPathOf};
 ghost use Rattle.tree_search.specs.Rays.{IsRayless};
 ghost use Rattle.tree_search.specs.Making.{LowersNone, IsMaking};
 ghost use Rattle.tree_search.specs.Best.{Improves};
-ghost use Rattle.tree_search.specs.Searching.{IsAt, GoesOn};
+ghost use Rattle.tree_search.specs.Searching.{IsSearchAt, GoesOn};
 ghost use Rattle.tree_search.specs.Made.{IsOpenSplit};
-ghost use Rattle.tree_search.specs.Working.{ClosesWith, IsPressed, IsSettled, IsVerdict, IsWorked};
+ghost use Rattle.tree_search.specs.Working.{ClosesWith, IsPressed, IsSettled, IsVerdict, IsWholeLeaf, IsWorked};
 
 use crate::rays::ray;
 use crate::search::Search;
@@ -85,7 +85,7 @@ fn made<S: Strategy>(
     boxed: &PreparedBox<'_>,
     may_split: bool,
 ) -> Result<Worked, NoMemory>
-    requires at { IsAt boxed.now search.old }
+    requires at { IsSearchAt boxed.now search.old }
     requires rayless { IsRayless boxed.now.instance boxed.now.path }
     ensures plan { OnOk result (Improves search.old.best search.new.best) }
     ensures worked { IfOk result (λ w. (old : Prices) →
@@ -94,25 +94,29 @@ fn made<S: Strategy>(
 {
     // An instance is valid, so that bounds hold.
     let _sites = search.instance().sites();
-    press(search, strategy, boxed)?;
+    if let Some(duals) = press(search, strategy, boxed)? {
+        return Ok(Worked { duals, split: None });
+    }
     search.leaf.settle(boxed, search.order);
     let split = verdict(search, strategy, boxed, may_split)?;
     let duals = search.leaf.duals().copied()?;
     Ok(Worked { duals, split })
 }
 
-// While the leaf is open: packs a plan at the tight sites of the plain ascent, and makes it stronger.
+// While the leaf is open: packs a plan at the tight sites of the plain ascent, and makes it stronger. Where whole
+// knapsacks close the box, the answer is their duals.
 fn press<S: Strategy>(
     search: &mut Search<'_>,
     strategy: &mut S,
     boxed: &PreparedBox<'_>,
-) -> Result<(), NoMemory>
-    requires { IsAt boxed.now search.old }
+) -> Result<Option<Duals>, NoMemory>
+    requires { IsSearchAt boxed.now search.old }
     ensures on { OnOk result (GoesOn boxed.now search.old search.new) }
     ensures pressed { OnOk result (IsPressed boxed.now.instance search.new.best.plan boxed.now.path search.old.leaf.plain search.new.leaf.best.duals) }
+    ensures whole { IfOk result (λ found. IfSome found (IsWholeLeaf boxed.now.instance search.new.best.plan boxed.now.path)) }
 {
     if is_closed(search, boxed) {
-        return Ok(());
+        return Ok(None);
     }
     let plan = packed_in(
         search.alloc,
@@ -122,10 +126,10 @@ fn press<S: Strategy>(
     )?;
     search.offer(plan);
     if is_closed(search, boxed) {
-        return Ok(());
+        return Ok(None);
     }
-    strengthen(search, strategy, boxed)?;
-    Ok(())
+    let found = strengthen(search, strategy, boxed)?;
+    Ok(found)
 }
 
 // Where the leaf is open: packs a plan at the tight sites of the best duals, and says how the box is split,
@@ -136,7 +140,7 @@ fn verdict<S: Strategy>(
     boxed: &PreparedBox<'_>,
     may_split: bool,
 ) -> Result<Option<Split>, NoMemory>
-    requires { IsAt boxed.now search.old }
+    requires { IsSearchAt boxed.now search.old }
     ensures plan { OnOk result (Improves search.old.best search.new.best) }
     ensures leaf { OnOk result (search.new.leaf ≡ search.old.leaf) }
     ensures verdict { IfOk result (IsVerdict boxed.now.instance search.new.best.plan may_split boxed.now.path search.new.leaf.best.duals) }
@@ -165,7 +169,7 @@ fn split_of<S: Strategy>(
     strategy: &mut S,
     boxed: &PreparedBox<'_>,
 ) -> Option<Split>
-    requires { IsAt boxed.now search.now }
+    requires { IsSearchAt boxed.now search.now }
     ensures some { IfSome result (IsOpenSplit boxed.now.instance boxed.now.path) }
     ensures none { IfNone result (IsSettled boxed.now.instance boxed.now.path) }
 {
@@ -178,7 +182,7 @@ fn split_of<S: Strategy>(
 
 // Whether the best duals close the box against what the best plan costs.
 fn is_closed(search: &Search<'_>, boxed: &PreparedBox<'_>) -> bool
-    requires { IsAt boxed.now search.now }
+    requires { IsSearchAt boxed.now search.now }
     ensures { IsTrue result ↔ ClosesWith boxed.now.instance search.now.best.plan boxed.now.path search.now.leaf.best.duals }
 {
     search.closes()

@@ -14,6 +14,6 @@ returns-clause-ray c =
     let load = ap (λ (xs : List ℕ). slice_index xs k) c.deref.ensures.value ∙ c.in_ok-loads.ensures.exact k c.in-Some.ensures.within in
     record {
       scale = ap (λ (d : Duals). d.q) c.in_ok-ray_of-in-Some.ensures;
-      made = λ old_path old. full_is_made I path (subst IsValid c.instance-2.ensures c.custs-custs.ensures.valid) k c.in-Some.ensures.within c.in-Some.ensures.opened
-          (subst (λ (n : ℕ). holds_demand (site_at I k).cap n ≡ false) load c.in-Some.ensures.over) old_path old c.in_ok-ray_of-in-Some.field-0 c.in_ok-ray_of-in-Some.ensures;
+      made = λ cost old_path old. full_is_made I path (subst IsValid c.instance-2.ensures c.custs-custs.ensures.valid) k c.in-Some.ensures.within c.in-Some.ensures.opened
+          (subst (λ (n : ℕ). holds_demand (site_at I k).cap n ≡ false) load c.in-Some.ensures.over) cost old_path old c.in_ok-ray_of-in-Some.field-0 c.in_ok-ray_of-in-Some.ensures;
     }

@@ -18,7 +18,7 @@ work-requires-clause-near g c =
     let growing = c.requires.growing in
     let at_work = leaf_is _ c.path.result.now c.duals.result.now c.path.ensures c.duals.ensures in
     let reached = reached_at c.args.search.now.best.instance growing.0 c.args.replaced.now growing.1 c.args.search.now.best.plan c.args.search.now.best.plan c.args.limit c.args.growth.now growing.2 c.requires.left c.path.result.now c.duals.result.now at_work in
-    reached.fit
+    reached.fit.numbers
 
 pub set_duals-requires-clause-lists : goal.set_duals-requires-clause-lists
 set_duals-requires-clause-lists g c =

@@ -11,7 +11,7 @@ returns-then-opened_count-hi-clause-ray c =
     let is = c.in_ok-priced_zeros.ensures ∙ ap (λ (J : Instance). count_ray J (pos 1)) c.instance-then-opened_count-hi.ensures in
     record {
       scale = ap (λ (d : Duals). d.q) is;
-      made = λ old_path old. opened_ray c.args.boxed.now.instance c.args.boxed.now.path (omega (arith, hi, c.opened_count.ensures.exact, c.if-opened_count-hi.true)) old_path old c.in_ok-priced_zeros.field-0 is;
+      made = λ cost old_path old. opened_ray c.args.boxed.now.instance c.args.boxed.now.path (omega (arith, hi, c.opened_count.ensures.exact, c.if-opened_count-hi.true)) cost old_path old c.in_ok-priced_zeros.field-0 is;
     }
 
 pub returns-then-possible_count-lo-clause-ray : goal.returns-then-possible_count-lo-clause-ray
@@ -20,5 +20,5 @@ returns-then-possible_count-lo-clause-ray c =
     let is = c.in_ok-priced_zeros-2.ensures ∙ ap (λ (J : Instance). count_ray J (negsuc 0)) c.instance-then-possible_count-lo.ensures in
     record {
       scale = ap (λ (d : Duals). d.q) is;
-      made = λ old_path old. possible_ray c.args.boxed.now.instance c.args.boxed.now.path (omega (arith, lo, c.possible_count.ensures, c.if-possible_count-lo.true)) old_path old c.in_ok-priced_zeros-2.field-0 is;
+      made = λ cost old_path old. possible_ray c.args.boxed.now.instance c.args.boxed.now.path (omega (arith, lo, c.possible_count.ensures, c.if-possible_count-lo.true)) cost old_path old c.in_ok-priced_zeros-2.field-0 is;
     }

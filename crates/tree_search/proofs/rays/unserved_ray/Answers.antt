@@ -14,5 +14,5 @@ returns c =
     let is : c.set_v.new.self ≡ ray I c.args.boxed.now.path j c.requires.customer = c.set_v.ensures ∙ ap (λ (d : Duals). with_v d j (pos 1)) zero in
     record {
       scale = ap (λ (d : Duals). d.q) is;
-      made = λ old_path old. ray_is_made I c.args.boxed.now.path j c.requires.customer c.requires.unserved old_path old c.set_v.new.self is;
+      made = λ cost old_path old. ray_is_made I c.args.boxed.now.path j c.requires.customer c.requires.unserved cost old_path old c.set_v.new.self is;
     }

@@ -8,7 +8,13 @@ pub loop-turn-init : goal.loop-turn-init
 loop-turn-init g c = goes_same c.args.boxed.now c.args.search.now _ c.requires c.begin_asking.ensures
 
 pub loop-turn-preserved : goal.loop-turn-preserved
-loop-turn-preserved g c = goes_again c.args.boxed.now _ _ _ c.loop-turn.invariant c.try_move.ensures
+loop-turn-preserved g c = goes_again c.args.boxed.now _ _ _ c.loop-turn.invariant c.in_ok-duals.ensures.on
 
-pub returns-then-not-try_move : goal.returns-then-not-try_move
-returns-then-not-try_move g c = goes_again c.args.boxed.now _ _ _ c.loop-turn.invariant c.try_move.ensures
+pub returns-in-Whole-clause-on : goal.returns-in-Whole-clause-on
+returns-in-Whole-clause-on g c = goes_again c.args.boxed.now _ _ _ c.loop-turn.invariant c.in_ok-duals.ensures.on
+
+pub returns-in-Last-clause-on : goal.returns-in-Last-clause-on
+returns-in-Last-clause-on g c = goes_again c.args.boxed.now _ _ _ c.loop-turn.invariant c.in_ok-duals.ensures.on
+
+pub returns-then-closes-clause-on : goal.returns-then-closes-clause-on
+returns-then-closes-clause-on g c = goes_again c.args.boxed.now _ _ _ c.loop-turn.invariant c.in_ok-duals.ensures.on

@@ -1,30 +1,31 @@
 use Rattle.std.proofs.Common.{◌≡◌, ◌∙◌, sym, ap, subst}
+use Rattle.std.specs.Prelude.{IfSome}
 use Rattle.location_terms.specs.Instance.{IsValid}
 use Rattle.location_terms.specs.Bound.{Duals}
 use Rattle.plan_search.specs.InBox.{IsNoWorse}
-use Rattle.tree_search.specs.Working.{IsVerdict, IsWorked}
+use Rattle.tree_search.specs.Working.{IsVerdict, IsWholeLeaf, IsWorked}
 use Rattle.tree_search.specs.Best.{Best, Improves}
 use Rattle.tree_search.specs.Making.{Making, IsMaking, StaysMaking}
 use Rattle.tree_search.specs.Searching.{Searching}
 use Rattle.tree_search.proofs.Offered.{improved_in, improves_again}
 use Rattle.tree_search.proofs.Going.{order_in, makes_in, goes_with}
-use Rattle.tree_search.proofs.Verdicts.{worked_from}
+use Rattle.tree_search.proofs.Verdicts.{worked_from, whole_worked}
 use Rattle.tree_search.proofs.work.made.Goals as goal
 
 pub settle-requires-clause-order : goal.settle-requires-clause-order
-settle-requires-clause-order g c = order_in c.args.boxed.now.instance c.press.new.search c.in_ok-press.ensures.on.at.instance c.search.inside.order.now c.search.inside.incumbent c.search.inside.leaf c.search.invariant c.search.view_is
+settle-requires-clause-order g c = order_in c.args.boxed.now.instance c.press.new.search c.in_ok-duals.ensures.on.at.instance c.search.inside.order.now c.search.inside.incumbent c.search.inside.leaf c.search.inside.bounds c.search.invariant c.search.view_is
 
 pub settle-requires-clause-making : goal.settle-requires-clause-making
-settle-requires-clause-making g c = makes_in c.args.boxed.now c.press.new.search c.in_ok-press.ensures.on.at c.search.inside.incumbent c.search.inside.leaf c.search.view_is
+settle-requires-clause-making g c = makes_in c.args.boxed.now c.press.new.search c.in_ok-duals.ensures.on.at c.search.inside.incumbent c.search.inside.leaf c.search.view_is
 
 pub verdict-requires : goal.verdict-requires
-verdict-requires g c = (goes_with c.args.boxed.now c.press.new.search c.in_ok-press.ensures.on.at c.search.inside.incumbent c.search.inside.leaf c.search.view_is c.settle.new.self c.settle.ensures.stays).at
+verdict-requires g c = (goes_with c.args.boxed.now c.press.new.search c.in_ok-duals.ensures.on.at c.search.inside.incumbent c.search.inside.leaf c.search.view_is c.settle.new.self c.settle.ensures.stays).at
 
 pub returns-clause-plan : goal.returns-clause-plan
 returns-clause-plan g c =
     let incumbent : c.search.inside.incumbent ≡ c.press.new.search.best = ap (λ (s : Searching). s.best) c.search.view_is in
     let second : Improves c.press.new.search.best c.verdict.new.search.best = subst (λ (x : Best). Improves x c.verdict.new.search.best) incumbent c.in_ok-split.ensures.plan in
-    improves_again c.args.search.now.best c.press.new.search.best c.verdict.new.search.best c.in_ok-press.ensures.on.plan second
+    improves_again c.args.search.now.best c.press.new.search.best c.verdict.new.search.best c.in_ok-duals.ensures.on.plan second
 
 pub returns-clause-worked : goal.returns-clause-worked
 returns-clause-worked g c = λ old under.
@@ -35,7 +36,7 @@ returns-clause-worked g c = λ old under.
     let pressed = c.press.new.search in
     let settled = c.settle.new.self in
     let after = c.verdict.new.search in
-    let on = c.in_ok-press.ensures.on in
+    let on = c.in_ok-duals.ensures.on in
     let valid : IsValid I = subst IsValid (c.instance.ensures ∙ at.instance) c.sites-sites.ensures.valid in
     let leaf : c.search.inside.leaf ≡ pressed.leaf = ap (λ (s : Searching). s.leaf) c.search.view_is in
     let incumbent : c.search.inside.incumbent ≡ pressed.best = ap (λ (s : Searching). s.best) c.search.view_is in
@@ -45,7 +46,17 @@ returns-clause-worked g c = λ old under.
     let worked =
     worked_from I path valid at.path c.requires.rayless
     c.args.search.now.leaf pressed.leaf settled making.0 making.1 making.2 on.leaf second
-    pressed.best.plan after.best.plan later c.in_ok-press.ensures.pressed c.args.may_split c.in_ok-split.split old verdict
+    pressed.best.plan after.best.plan later c.in_ok-duals.ensures.pressed c.args.may_split c.in_ok-split.split old verdict
     (λ old_path lowers. c.settle.ensures.made old_path old c.requires.rayless.served (subst (λ (m : Making). IsMaking I old_path old path m) (sym leaf) (on.leaf.making old_path old (under old_path lowers)))) in
-    let duals : c.in_ok-duals.duals ≡ settled.best.duals = c.in_ok-duals.ensures ∙ c.duals.ensures ∙ ap (λ (s : Searching). s.leaf.best.duals) c.search-2.view_is ∙ ap (λ (m : Making). m.best.duals) c.in_ok-split.ensures.leaf in
+    let duals : c.in_ok-duals-2.duals ≡ settled.best.duals = c.in_ok-duals-2.ensures ∙ c.duals.ensures ∙ ap (λ (s : Searching). s.leaf.best.duals) c.search-2.view_is ∙ ap (λ (m : Making). m.best.duals) c.in_ok-split.ensures.leaf in
     subst (λ (d : Duals). IsWorked I after.best.plan c.args.may_split old path d c.in_ok-split.split) (sym duals) worked
+
+pub returns-in-Some-clause-worked : goal.returns-in-Some-clause-worked
+returns-in-Some-clause-worked g c = λ old under.
+    let I = c.args.boxed.now.instance in
+    let path = c.args.boxed.now.path in
+    let at = c.requires.at in
+    let valid : IsValid I = subst IsValid (c.instance.ensures ∙ at.instance) c.sites-sites.ensures.valid in
+    let plan = c.press.new.search.best.plan in
+    let whole : IsWholeLeaf I plan path c.in-Some.duals = subst (λ o. IfSome o (IsWholeLeaf I plan path)) c.in-Some.is c.in_ok-duals.ensures.whole in
+    whole_worked I path plan c.args.may_split old c.in-Some.duals valid at.path whole

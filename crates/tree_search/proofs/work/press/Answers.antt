@@ -23,7 +23,7 @@ pub strengthen-requires : goal.strengthen-requires
 strengthen-requires g c = (goes_on_plan c.args.boxed.now c.args.search.now c.offer.new.self c.requires c.offer.ensures.improves c.offer.ensures.leaf).at
 
 pub returns-clause-on : goal.returns-clause-on
-returns-clause-on g c = goes_again c.args.boxed.now _ _ _ (goes_on_plan c.args.boxed.now c.args.search.now c.offer.new.self c.requires c.offer.ensures.improves c.offer.ensures.leaf) c.in_ok-strengthen.ensures
+returns-clause-on g c = goes_again c.args.boxed.now _ _ _ (goes_on_plan c.args.boxed.now c.args.search.now c.offer.new.self c.requires c.offer.ensures.improves c.offer.ensures.leaf) c.in_ok-found.ensures.on
 
 pub returns-clause-pressed : goal.returns-clause-pressed
 returns-clause-pressed g c =
@@ -37,4 +37,4 @@ returns-clause-pressed g c =
     let is : hint ≡ tight_sites I path plain = c.plain_tight_sites.ensures ∙ ap (λ (s : Searching). s.leaf.hint) c.search.view_is ∙ c.requires.making.2.hint in
     let offered : IsNoWorse I mid.plan (packed I path hint) = subst (IsNoWorse I mid.plan) c.in_ok-plan.ensures.exact (subst (λ (J : Instance). IsNoWorse J mid.plan c.in_ok-plan.plan) c.requires.instance c.offer.ensures.offered) in
     let sought : IsSoughtAt I mid.plan path plain = offered_sought I path plain mid.plan hint is offered in
-    inr (sought_still I path new.plan mid.plan (improved_in I mid new same c.in_ok-strengthen.ensures.plan) plain sought)
+    inr (sought_still I path new.plan mid.plan (improved_in I mid new same c.in_ok-found.ensures.on.plan) plain sought)

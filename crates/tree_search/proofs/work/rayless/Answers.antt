@@ -6,10 +6,10 @@ use Rattle.tree_search.proofs.Going.{order_in, maker_in}
 use Rattle.tree_search.proofs.work.rayless.Goals as goal
 
 pub enter-requires-clause-order : goal.enter-requires-clause-order
-enter-requires-clause-order g c = order_in c.args.boxed.now.instance c.args.search.now c.requires.instance c.search.inside.order.now c.search.inside.incumbent c.search.inside.leaf c.search.invariant c.search.view_is
+enter-requires-clause-order g c = order_in c.args.boxed.now.instance c.args.search.now c.requires.instance c.search.inside.order.now c.search.inside.incumbent c.search.inside.leaf c.search.inside.bounds c.search.invariant c.search.view_is
 
 pub enter-requires-clause-maker : goal.enter-requires-clause-maker
-enter-requires-clause-maker g c = maker_in c.args.boxed.now.instance c.args.search.now c.requires.instance c.search.inside.order.now c.search.inside.incumbent c.search.inside.leaf c.search.invariant c.search.view_is
+enter-requires-clause-maker g c = maker_in c.args.boxed.now.instance c.args.search.now c.requires.instance c.search.inside.order.now c.search.inside.incumbent c.search.inside.leaf c.search.inside.bounds c.search.invariant c.search.view_is
 
 pub made-requires-clause-at : goal.made-requires-clause-at
 made-requires-clause-at g c = record {

@@ -8,7 +8,7 @@ pub invariant_of-result : goal.invariant_of-result
 invariant_of-result c =
     let I = c.args.inst.now in
     begun_kept (site_ids I) (customer_ids I) c.args.path c.new.result.items c.args.duals c.in_ok-done.done.items c.new.ensures.items c.in_ok-done.ensures.items _ c.in_ok-done.ensures.capacity
-    (c.requires.0 ∙ sym (length-site_ids I), c.requires.1 ∙ sym (length-customer_ids I), c.requires.2)
+    (c.requires.0 ∙ sym (length-site_ids I), c.requires.1 ∙ sym (length-customer_ids I), c.requires.2, c.requires.3)
 
 pub returns : goal.returns
 returns c = begun_seen (site_ids c.args.inst.now) (customer_ids c.args.inst.now) c.args.path c.new.result.items c.args.duals c.in_ok-done.done.items c.new.ensures.items c.in_ok-done.ensures.items

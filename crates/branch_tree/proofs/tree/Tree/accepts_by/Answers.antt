@@ -2,7 +2,7 @@ use Rattle.std.proofs.Common.{sym, subst}
 use Rattle.std.specs.Prelude.{All, IsTrue, ◌↔◌, length}
 use Rattle.location_terms.specs.Box.{Path}
 use Rattle.location_terms.specs.Bound.{Duals}
-use Rattle.location_terms.specs.Fit.{Closes}
+use Rattle.location_terms.specs.Leaf.{LeafCloses}
 use Rattle.location_terms.specs.Tree.{HasLists, AllClose}
 use Rattle.branch_tree.proofs.Judged.{lists_on, low_end_shown, impossible_shown}
 use Rattle.branch_tree.proofs.tree.Tree.accepts_by.Goals as goal
@@ -17,7 +17,7 @@ pub returns : goal.returns
 returns c =
     let I = c.args.inst.now in
     let exact : IsTrue c.in_ok-yes.yes ↔ AllClose I c.args.self.now c.args.target =
-    subst (λ ls. IsTrue c.in_ok-yes.yes ↔ All (λ (l : Path × Duals). Closes I l.0 l.1 c.args.target) ls) c.in_ok-leaves.ensures.leaves c.in_ok-yes.ensures.exact in
+    subst (λ ls. IsTrue c.in_ok-yes.yes ↔ All (λ (l : Path × Duals). LeafCloses I l.0 l.1 c.args.target) ls) c.in_ok-leaves.ensures.leaves c.in_ok-yes.ensures.exact in
     record {
       kept = c.all_close.ensures.kept;
       exact = exact;

@@ -5,7 +5,7 @@ use Rattle.location_terms.specs.Instance.{Instance}
 use Rattle.location_terms.specs.Optimal.{IsLowEnd}
 use Rattle.location_terms.specs.Box.{Path}
 use Rattle.location_terms.specs.Bound.{Duals}
-use Rattle.location_terms.specs.Fit.{DualsFit}
+use Rattle.location_terms.specs.Leaf.{LeafFits}
 use Rattle.location_terms.specs.Tree.{leaves_of, low_of}
 use Rattle.location_terms.proofs.LowEnds.{shows_low}
 use Rattle.branch_tree.specs.Walk.{lowered_all}
@@ -14,8 +14,8 @@ use Rattle.branch_tree.proofs.tree.Tree.low_by.Goals as goal
 
 pub least_low-requires : goal.least_low-requires
 least_low-requires c =
-    subst (λ (I : Instance). All (λ (l : Path × Duals). DualsFit I l.1) c.in_ok-leaves.field-0) (sym c.requires.bounds)
-    (subst (All (λ (l : Path × Duals). DualsFit c.args.inst.now l.1)) (sym c.in_ok-leaves.ensures.leaves) c.requires.fit)
+    subst (λ (I : Instance). All (λ (l : Path × Duals). LeafFits I l.1) c.in_ok-leaves.field-0) (sym c.requires.bounds)
+    (subst (All (λ (l : Path × Duals). LeafFits c.args.inst.now l.1)) (sym c.in_ok-leaves.ensures.leaves) c.requires.fit)
 
 pub returns : goal.returns
 returns c =

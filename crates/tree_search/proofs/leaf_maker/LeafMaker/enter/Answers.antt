@@ -27,4 +27,4 @@ returns-clause-making c =
     let first : IsMaking I path (zeros I 0) path m = c.take.ensures.stays.making path (zeros I 0) c.in_ok-begin.ensures.making in
     let second = c.take-2.ensures.stays in
     below_leaf I path n old (second.making path (zeros I 0) first)
-    (λ tame scale. at_least_trans (bound_of I path n.best.duals) (bound_of I path m.best.duals) (bound_of I path old) n.best.duals.q m.best.duals.q old.q first.best_risen.tame.scaled second.risen (c.take.ensures.taken tame scale))
+    (λ form tame scale. at_least_trans (bound_of I path n.best.duals) (bound_of I path m.best.duals) (bound_of I path old) n.best.duals.q m.best.duals.q old.q first.best_risen.tame.scaled second.risen (c.take.ensures.taken form tame scale))

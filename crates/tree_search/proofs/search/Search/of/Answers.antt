@@ -1,4 +1,4 @@
-use Rattle.std.proofs.Common.{sym, subst}
+use Rattle.std.proofs.Common.{◌∙◌, sym, subst}
 use Rattle.location_terms.specs.Instance.{Instance}
 use Rattle.lane_order.specs.Order.{IsOrderOf}
 use Rattle.tree_search.specs.Making.{IsMakerFor}
@@ -10,4 +10,5 @@ invariant_of-result c =
     record {
       order = subst (IsOrderOf c.args.order.now) (sym same) c.requires.order;
       maker = subst (λ (J : Instance). IsMakerFor J c.in_ok-leaf.leaf) (sym same) c.in_ok-leaf.ensures;
+      bounds = c.by_order-bounds.ensures ∙ sym same;
     }

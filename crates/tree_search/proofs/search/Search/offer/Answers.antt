@@ -7,7 +7,7 @@ use Rattle.tree_search.proofs.Going.{search_still}
 use Rattle.tree_search.proofs.search.Search.offer.Goals as goal
 
 pub invariant_of-self : goal.invariant_of-self
-invariant_of-self c = search_still c.self.inside.order.now c.self.inside.incumbent c.offer.new.self c.self.inside.leaf c.self.invariant c.offer.ensures.improves.same
+invariant_of-self c = search_still c.self.inside.order.now c.self.inside.incumbent c.offer.new.self c.self.inside.leaf c.self.inside.bounds c.self.invariant c.offer.ensures.improves.same
 
 pub returns-clause-improves : goal.returns-clause-improves
 returns-clause-improves c = subst (λ (x : Best). Improves x c.offer.new.self) (ap (λ (s : Searching). s.best) c.self.view_is) c.offer.ensures.improves
