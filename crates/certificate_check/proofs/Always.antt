@@ -8,8 +8,8 @@ use Rattle.shelf_lines.specs.Line.{is_line_feed}
 use Rattle.location_terms.specs.declared.claim.Claim.{Claim}
 use Rattle.location_terms.specs.Instance.{Instance, IsValid}
 use Rattle.location_terms.specs.Plan.{cost_of}
-use Rattle.location_terms.specs.Bound.{bound_of}
 use Rattle.location_terms.specs.Fit.{BoundCloses}
+use Rattle.location_terms.specs.Leaf.{leaf_bound}
 use Rattle.location_terms.specs.Certificate.{cost_claimed, target_of}
 use Rattle.plan_meaning.proofs.Faults.{OrNot, same_or_not-number, feasible_or_fault}
 use Rattle.certificate_lines.specs.declared.fault.CertFault.{CertFault}
@@ -69,9 +69,9 @@ judged I (PlanShown claim P) planned =
     ]
 judged I (SplitShown split) planned = inl tt
 judged I (LeafShown claim path d) planned =
-    elim (closes_or_not (bound_of I path d) d.q (target_of claim)) [
+    elim (closes_or_not (leaf_bound I path d) d.q (target_of claim)) [
       | inl closed ↦ inl closed
-      | inr fails ↦ inr (LeafOpen (bound_of I path d) d.q, (refl, refl, fails))
+      | inr fails ↦ inr (LeafOpen (leaf_bound I path d) d.q, (refl, refl, fails))
     ]
 
 -- what is shown has an answer

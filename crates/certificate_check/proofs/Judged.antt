@@ -10,8 +10,9 @@ use Rattle.location_terms.specs.Instance.{Instance, site_ids}
 use Rattle.location_terms.specs.Plan.{Plan, IsFeasible, cost_of}
 use Rattle.location_terms.specs.Box.{Path}
 use Rattle.location_terms.specs.Split.{first_step, second_step}
-use Rattle.location_terms.specs.Bound.{Duals, bound_of}
+use Rattle.location_terms.specs.Bound.{Duals}
 use Rattle.location_terms.specs.Fit.{BoundCloses}
+use Rattle.location_terms.specs.Leaf.{leaf_bound}
 use Rattle.location_terms.specs.Tree.{Node, Leaf, Fork, Tree, AllClose, leaves_below}
 use Rattle.location_terms.specs.Certificate.{Certificate, cost_claimed, target_of, Costs, Shows, IsAccepted}
 use Rattle.certificate_lines.specs.Due.{Shown, PlanShown, SplitShown, LeafShown}
@@ -24,7 +25,7 @@ parts P xs ys all = (λ k d within. subst P (get_or_append_left xs ys d k within
 
 -- the bound of a leaf closes against the claim's target
 abbrev IsClosed : Instance → Claim → Path × Duals → Type 0
-IsClosed I claim l = BoundCloses (bound_of I l.0 l.1) l.1.q (target_of claim)
+IsClosed I claim l = BoundCloses (leaf_bound I l.0 l.1) l.1.q (target_of claim)
 
 -- what a split shows and its two parts show stands just where the leaves of both parts close
 split_stands : (I : Instance) (claim : Claim) (split : Shown) (xs ys : List Shown) (ls ms : List (Path × Duals)) → Stands I split

@@ -5,8 +5,8 @@ use Rattle.std.proofs.lemmas.List.Elements.{All-nil, All-cons, All-head, All-tai
 use Rattle.location_terms.specs.declared.claim.Claim.{Claim}
 use Rattle.location_terms.specs.Instance.{Instance}
 use Rattle.location_terms.specs.Plan.{Plan, IsFeasible}
-use Rattle.location_terms.specs.Bound.{bound_of}
 use Rattle.location_terms.specs.Fit.{BoundCloses}
+use Rattle.location_terms.specs.Leaf.{leaf_bound}
 use Rattle.location_terms.specs.Certificate.{target_of}
 use Rattle.plan_meaning.specs.declared.fault.PlanFault.{PlanFault}
 use Rattle.plan_meaning.specs.declared.fault.PlanFault.TheVariants.{UnknownSite, NotEachCustomerOnce, ServedByClosed, NoLane, OverCapacity, SiteCount, StatusBroken}
@@ -54,7 +54,7 @@ no_fault I P StatusBroken feasible first = first.6 feasible.statuses
 pub none_against : (I : Instance) (shown : Shown) (why : Why) → Stands I shown → IsAgainst I shown why → ⊥
 none_against I (PlanShown claim P) (PlanRefused fault) stands against = no_fault I P fault stands.0 against
 none_against I (PlanShown claim P) (CostDiffers found) stands against = against.2 (ap Some (sym against.1) ∙ stands.1)
-none_against I (LeafShown claim path d) (LeafOpen bound q) stands against = against.2 (subst (λ b. BoundCloses b q (target_of claim)) (sym against.0) (subst (λ k. BoundCloses (bound_of I path d) k (target_of claim)) (sym against.1) stands))
+none_against I (LeafShown claim path d) (LeafOpen bound q) stands against = against.2 (subst (λ b. BoundCloses b q (target_of claim)) (sym against.0) (subst (λ k. BoundCloses (leaf_bound I path d) k (target_of claim)) (sym against.1) stands))
 none_against I shown why stands against = against
 
 -- behind what stands, what follows decides

@@ -1,5 +1,5 @@
 // The checker, which takes a certificate a line at a time.
-ghost use Rattle.std.specs.Prelude.{◌≡◌, ◌⊎◌, ℕ, ◌≤◌, List, [], length, Option, MatchOption, IsErrOf};
+ghost use Rattle.std.specs.Prelude.{◌≡◌, ◌⊎◌, ℕ, ◌≤◌, List, [], length, Option, MatchOption, IfOk, IsErrOf};
 ghost use Rattle.location_terms.specs.Plan.{Plan};
 ghost use Rattle.location_terms.specs.Optimal.{ClaimHolds};
 ghost use Rattle.location_terms.specs.Certificate.{Certificate, IsAccepted};
@@ -16,14 +16,15 @@ use crate::against::against;
 use crate::{CertFault, MAX_CERTIFICATE_BYTES, Verdict};
 use certificate_lines::Shown;
 use certificate_reader::{CertReader, Seen};
-use dual_value::BoxBounds;
-use instance_store::Instance;
+use instance_store::{Instance, NoMemory};
+use leaf_bounds::LeafBounds;
 use location_terms::Claim;
 use shelf_port::Shelf;
 use std::alloc::Global;
 
 /// Reads the certificate of this name on the shelf, a line at a time, and says whether it shows its
-/// claim of the instance. One piece of the file, one line and one leaf are held, however long it is.
+/// claim of the instance. One piece of the file, one line, one leaf and what one site's best set of whole
+/// customers takes are held, however long it is.
 ///
 /// `Yes` carries the claim, which then holds. `No` names the first line that shows why not. The fault
 /// `Text` is the first one of the text, with its line, counted from 1, where nothing before it speaks
@@ -84,12 +85,12 @@ pub(crate) fn check_lines<H: Shelf>(
     ensures reads { NeverFalls (H.read_faults shelf.old) (H.read_faults shelf.new) }
     ensures writes { NeverFalls (H.write_faults shelf.old) (H.write_faults shelf.new) }
 {
-    let mut bounds = BoxBounds::of(alloc, inst);
+    let mut bounds = LeafBounds::of(alloc, inst);
     loop {
         match reader.next(alloc, inst, shelf, name)? {
             Seen::Whole(claim) => return Ok(Verdict::Yes(claim)),
             Seen::Line(line, shown) => {
-                if let Some(no) = refusal(inst, &mut bounds, line, shown) {
+                if let Some(no) = refusal(inst, &mut bounds, line, shown)? {
                     return Ok(no);
                 }
             }
@@ -97,17 +98,27 @@ pub(crate) fn check_lines<H: Shelf>(
     }
 }
 
-// The verdict on what the line of this number shows, where something speaks against it.
-fn refusal(inst: &Instance, bounds: &mut BoxBounds<'_>, line: u64, shown: Shown) -> Option<Verdict>
+// The verdict on what the line of this number shows, where something speaks against it. It fails only where
+// memory runs out.
+fn refusal(
+    inst: &Instance,
+    bounds: &mut LeafBounds<'_>,
+    line: u64,
+    shown: Shown,
+) -> Result<Option<Verdict>, NoMemory>
     requires bounds { bounds.old ≡ inst.now }
     requires sound { IsSound inst.now (shown_of shown) }
     ensures kept { bounds.new ≡ bounds.old }
-    ensures exact { MatchOption result (Stands inst.now (shown_of shown))
-        (λ no. IsRefusal inst.now (shown_of shown) line (Ok no)) }
+    ensures exact { IfOk result (λ no. MatchOption no (Stands inst.now (shown_of shown))
+        (λ no. IsRefusal inst.now (shown_of shown) line (Ok no))) }
 {
-    let why = against(inst, bounds, &shown)?;
-    let line = line_of(&shown, line);
-    Some(Verdict::No { line, why })
+    match against(inst, bounds, &shown)? {
+        None => Ok(None),
+        Some(why) => {
+            let line = line_of(&shown, line);
+            Ok(Some(Verdict::No { line, why }))
+        }
+    }
 }
 
 // The line to which a judgement belongs, where this line completes what is judged: the first of a

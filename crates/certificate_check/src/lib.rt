@@ -17,3 +17,5 @@ mod endless_tests;
 mod status_tests;
 #[cfg(test)]
 mod tests;
+#[cfg(test)]
+mod whole_tests;

@@ -8,7 +8,8 @@ use Rattle.location_terms.specs.declared.claim.Claim.TheVariants.{Optimal, Infea
 use Rattle.location_terms.specs.Instance.{Instance, IsValid, customer_ids}
 use Rattle.location_terms.specs.Plan.{IsPlan}
 use Rattle.location_terms.specs.Box.{Path}
-use Rattle.location_terms.specs.Fit.{DualsFit}
+use Rattle.location_terms.specs.declared.form.LeafForm.{LeafForm}
+use Rattle.location_terms.specs.Leaf.{LeafFits, PricesSuit, KnapsacksSuit}
 use Rattle.location_terms.proofs.Places.{length-customer_ids}
 use Rattle.branch_tree.specs.Walk.{turned}
 use Rattle.certificate_lines.specs.Text.{is_all_free}
@@ -19,7 +20,7 @@ use Rattle.certificate_lines.specs.declared.line.Shown.{Shown as CodeShown}
 use Rattle.certificate_lines.specs.declared.line.LineFault.{LineFault}
 use Rattle.certificate_lines.specs.Model.{due_of, shown_of, IsSound, Answers}
 use Rattle.certificate_lines.proofs.Prices.{ArePrices}
-use Rattle.certificate_lines.proofs.LineSpelling.{Says, NodeLine, on_split, on_leaf, IsSpelled, line-spelled}
+use Rattle.certificate_lines.proofs.LineSpelling.{Says, duals_in, NodeLine, on_split, on_leaf, IsSpelled, line-spelled}
 
 -- the lists of a plan that is shown rise
 abbrev pub IsPlanned : Shown → Type 0
@@ -46,11 +47,15 @@ leaf-suits : (I : Instance) (claim : Claim) (next : Option Path) → Suits I (no
 leaf-suits I claim (Some path) = tt
 leaf-suits I claim None = tt
 
--- the duals of a leaf fit
-pub leaf_fits : (I : Instance) (q : ℕ) (nu : ℤ) (v : List ℤ) (u : List ℕ) → Suits I (PricesDue Infeasible [] q nu v) → ArePrices I u → DualsFit I (record { q = q; nu = nu; v = v; u = u })
-leaf_fits I q nu v u suits prices = record {
-  in_limits = record { scale = suits.0; count_price = suits.1; values = suits.3; multipliers = prices.small };
-  of_instance = record { customers = suits.2; sites = prices.long; unpriced = prices.unpriced };
+-- the duals of a leaf fit and suit their form
+pub leaf_fits : (I : Instance) (form : LeafForm) (q : ℕ) (nu : ℤ) (v : List ℤ) (u : List ℕ) → Suits I (PricesDue Infeasible [] q nu v) → ArePrices I u → PricesSuit form u → KnapsacksSuit form I → LeafFits I (duals_in form q nu v u)
+leaf_fits I form q nu v u suits are prices small = record {
+  numbers = record {
+    in_limits = record { scale = suits.0; count_price = suits.1; values = suits.3; multipliers = are.small };
+    of_instance = record { customers = suits.2; sites = are.long; unpriced = are.unpriced };
+  };
+  prices = prices;
+  knapsacks = small;
 }
 
 node-good : (I : Instance) (claim : Claim) (path : Path) (line : List ℕ) (read : Due × Shown) → NodeLine I claim path line read → IsGood I read
@@ -69,7 +74,7 @@ spelled-good I (ServeDue claim sites) line read suits (servers, long, known, tex
     (tt, tt, λ valid. record { sites_rise = suits; customers_rise = subst IsStrictlyIncreasing (sym (firsts-zip (customer_ids I) servers (long ∙ sym (length-customer_ids I)))) valid.customers_named.rising }) says
 spelled-good I (NodeDue claim path) line read suits node = node-good I claim path line read node
 spelled-good I (ValuesDue claim path q nu) line read suits (v, long, small, text, says) = says-good I _ _ read ((suits.0, suits.1, long, small), tt, λ valid. tt) says
-spelled-good I (PricesDue claim path q nu v) line read suits (u, prices, text, says) = says-good I _ _ read (leaf-suits I claim (turned path), leaf_fits I q nu v u suits prices, λ valid. tt) says
+spelled-good I (PricesDue claim path q nu v) line read suits (form, u, are, prices, small, text, says) = says-good I _ _ read (leaf-suits I claim (turned path), leaf_fits I form q nu v u suits are prices small, λ valid. tt) says
 spelled-good I (EndDue claim) line read suits (text, says) = says-good I _ _ read (tt, tt, λ valid. tt) says
 spelled-good I (NothingDue claim) line read suits none = absurd none
 

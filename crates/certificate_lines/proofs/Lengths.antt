@@ -21,6 +21,8 @@ use Rattle.number_words.specs.Number.{number_text, digits_text}
 use Rattle.location_terms.specs.declared.status.SiteStatus.{SiteStatus}
 use Rattle.location_terms.specs.declared.claim.Claim.{Claim}
 use Rattle.location_terms.specs.declared.claim.Claim.TheVariants.{Optimal, Infeasible, Bracket}
+use Rattle.location_terms.specs.declared.form.LeafForm.{LeafForm}
+use Rattle.location_terms.specs.declared.form.LeafForm.TheVariants.{Prices, Whole}
 use Rattle.location_terms.specs.declared.split.Split.{Split}
 use Rattle.location_terms.specs.declared.split.Split.TheVariants.{Site, Lane}
 use Rattle.location_terms.specs.declared.limits.TheConstants.{MAX_ID, MAX_SITES, MAX_CUSTOMERS, MAX_COST, MAX_SCALE, MAX_VALUE, MAX_MULTIPLIER}
@@ -32,7 +34,7 @@ use Rattle.location_terms.specs.Split.{first_step, second_step, IsSplitAmong}
 use Rattle.location_terms.specs.Tree.{Tree, Node, Leaf, Fork, IsTree, StandsOn, size_of, leaves_below, SplitsAmong, HasLists}
 use Rattle.location_terms.specs.Certificate.{Certificate, cost_claimed}
 use Rattle.location_terms.proofs.Places.{length-site_ids, length-customer_ids}
-use Rattle.certificate_lines.specs.Text.{certificate_text, text_of_lines, counts_line, header_words, sizes_line, status_lines, is_all_free, ids_where, claim_line, plan_lines, priced, leaf_lines, split_line, node_lines}
+use Rattle.certificate_lines.specs.Text.{certificate_text, text_of_lines, counts_line, header_words, sizes_line, status_lines, is_all_free, ids_where, claim_line, plan_lines, priced, third_line, leaf_lines, split_line, node_lines}
 use Rattle.certificate_lines.specs.Follow.{HasSmallCosts, IsSpellable, HasPlanWhere, HasText}
 use Rattle.certificate_lines.specs.Length.{HasFewNodes}
 use Rattle.certificate_lines.specs.declared.limits.TheConstants.{MAX_CERTIFICATE_BYTES}
@@ -116,21 +118,26 @@ length-line line lines =
 length-lines : (xs ys : List (List ℕ)) → length (text_of_lines (xs ++ ys)) ≡ length (text_of_lines xs) + length (text_of_lines ys)
 length-lines xs ys = ap length (flat_map-append (λ l. l ++ 10 ∷ []) xs ys) ∙ length-append (text_of_lines xs) (text_of_lines ys)
 
+-- the third line of a leaf: the word `whole` is no longer than the prices of one site may be
+length-third : (form : LeafForm) (sites : List ℕ) (d : Duals) → 1 ≤ length d.u → All (λ s. s ≤ MAX_ID) sites → All (λ u. u ≤ MAX_MULTIPLIER) d.u → length (third_line form sites d) ≤ 1 + 31 * length d.u
+length-third Prices sites d some known small =
+    omega (arith, length-spaced (codes "u") (map (λ n. number_text (pos n)) (priced sites d.u)), gaps-priced sites d.u known small)
+length-third Whole sites d some known small = let five : length (codes "whole") ≡ 5 = refl in omega (arith, some, five)
+
 -- the lines of a leaf
-length-leaf : (sites : List ℕ) (m n : ℕ) (d : Duals) → All (λ s. s ≤ MAX_ID) sites → HasLists m n d → length (text_of_lines (leaf_lines sites d)) ≤ 44 + 27 * n + 31 * m
-length-leaf sites m n d known lists =
+length-leaf : (sites : List ℕ) (m n : ℕ) (d : Duals) → 1 ≤ m → All (λ s. s ≤ MAX_ID) sites → HasLists m n d → length (text_of_lines (leaf_lines sites d)) ≤ 44 + 27 * n + 31 * m
+length-leaf sites m n d some known lists =
     let small = lists.2 in
     let scale = scale_short d.q small.scale in
     let price = value_short d.nu small.count_price in
     let first = length-spaced (codes "leaf") (number_text (pos d.q) ∷ number_text d.nu ∷ []) in
     let second = length-spaced (codes "v") (map number_text d.v) in
-    let third = length-spaced (codes "u") (map (λ n. number_text (pos n)) (priced sites d.u)) in
     let values = gaps-map number_text 26 d.v (All-weaker (λ v. unsigned_abs v ≤ MAX_VALUE) (λ v. length (number_text v) ≤ 26) value_short d.v small.values) in
-    let prices = gaps-priced sites d.u known small.multipliers in
+    let third = length-third d.form sites d (omega (arith, some, lists.0)) known small.multipliers in
     let line_1 = spaced (codes "leaf" ∷ number_text (pos d.q) ∷ number_text d.nu ∷ []) in
     let line_2 = spaced (codes "v" ∷ map number_text d.v) in
-    let line_3 = counts_line (codes "u") (priced sites d.u) in
-    omega (arith, lists.0, lists.1, scale, price, first, second, third, values, prices, length-line line_1 (line_2 ∷ line_3 ∷ []), length-line line_2 (line_3 ∷ []), length-line line_3 [])
+    let line_3 = third_line d.form sites d in
+    omega (arith, lists.0, lists.1, scale, price, first, second, third, values, length-line line_1 (line_2 ∷ line_3 ∷ []), length-line line_2 (line_3 ∷ []), length-line line_3 [])
 
 -- the splits of a tree, which has one leaf more
 abbrev splits_in : Node → ℕ
@@ -142,7 +149,7 @@ size-splits (Leaf d) = refl
 size-splits (Fork split a b) = omega (arith, size-splits a, size-splits b)
 
 -- the lines of a node, where no leaf takes more than most
-module _ (sites customers : List ℕ) (m n most : ℕ) (known : All (λ s. s ≤ MAX_ID) sites) (named : All (λ c. c ≤ MAX_ID) customers) (enough : 44 + 27 * n + 31 * m ≤ most) where
+module _ (sites customers : List ℕ) (m n most : ℕ) (some : 1 ≤ m) (known : All (λ s. s ≤ MAX_ID) sites) (named : All (λ c. c ≤ MAX_ID) customers) (enough : 44 + 27 * n + 31 * m ≤ most) where
   length-split_line : (split : Split) → IsSplitAmong sites customers split → length (split_line split) ≤ 26
   length-split_line (Site s) among =
       let small = All-contains (λ s. s ≤ MAX_ID) sites s known among in
@@ -153,7 +160,7 @@ module _ (sites customers : List ℕ) (m n most : ℕ) (known : All (λ s. s ≤
       omega (arith, length-counts_line (codes "lane") (s ∷ c ∷ []) (All-cons (λ n. n ≤ MAX_ID) s (c ∷ []) site (All-cons (λ n. n ≤ MAX_ID) c [] customer (All-nil (λ n. n ≤ MAX_ID)))))
 
   length-node : (path : Path) (t : Node) → SplitsAmong sites customers t → All (λ (l : Path × Duals). HasLists m n l.1) (leaves_below path t) → length (text_of_lines (node_lines sites t)) ≤ splits_in t * (most + 27) + most
-  length-node path (Leaf d) among lists = omega (arith, enough, length-leaf sites m n d known (All-head (λ (l : Path × Duals). HasLists m n l.1) (path, d) [] lists))
+  length-node path (Leaf d) among lists = omega (arith, enough, length-leaf sites m n d some known (All-head (λ (l : Path × Duals). HasLists m n l.1) (path, d) [] lists))
   length-node path (Fork split a b) among lists =
       let below_a = path ++ first_step split ∷ [] in
       let below_b = path ++ second_step split ∷ [] in
@@ -250,7 +257,7 @@ length-tree I t valid tree stands =
     let m : length t.sites ≡ length I.sites = ap length stands.sites ∙ length-site_ids I in
     let n : length t.customers ≡ length I.customers = ap length stands.customers ∙ length-customer_ids I in
     let most = 44 + 27 * length I.customers + 31 * length I.sites in
-    omega (arith, length-node t.sites t.customers (length t.sites) (length t.customers) most known named (omega (arith, m, n)) [] t.root tree.splits tree.leaves)
+    omega (arith, length-node t.sites t.customers (length t.sites) (length t.customers) most (omega (arith, m, valid.sizes.some_site)) known named (omega (arith, m, n)) [] t.root tree.splits tree.leaves)
 
 -- the parts of a text come to less than the limit: those of the tree where it has few nodes, and the others in any case
 nodes_within : (splits m n : ℕ) → 1 ≤ m → 1 ≤ n → (2 * splits + 1) * (m + n) ≤ MAX_TREE_NUMBERS → (m + n ≤ 2 → 2 * splits + 1 ≤ 7) → splits * (71 + 27 * n + 31 * m) ≤ 1066700000

@@ -1,13 +1,13 @@
 -- How a certificate spells the line that is due. A line is read without a fault just where it is spelled so.
-use Rattle.std.proofs.Common.{◌≡◌, ℕ, ◌≤◌, ◌==◌, ◌&&◌, not, Bool, true, List, [], ◌∷◌, length, map, refl, sym, ap, ◌∙◌, inl, inr, arith, ◌<◌, false, get_or, Option, Some, None}
+use Rattle.std.proofs.Common.{◌≡◌, ℕ, ◌≤◌, ◌==◌, ◌&&◌, not, Bool, true, List, [], ◌∷◌, length, map, replicate, refl, sym, ap, ◌∙◌, inl, inr, arith, ◌<◌, false, get_or, Option, Some, None}
 use Rattle.std.specs.Prelude.{ℤ, pos, All, Contains, Ok, codes, unsigned_abs, is_none, if◌then◌else◌}
 use Rattle.std.specs.List.{list_all}
 use Rattle.std.specs.List.Sorted.{IsStrictlyIncreasing}
 use Rattle.std.proofs.lemmas.Bool.{and_parts, and_from, eqb-true, leb-true, eq-eqb, ne_eqb, le-leb, not_from_false, false_from_ne_true}
-use Rattle.std.proofs.lemmas.List.{length-map}
+use Rattle.std.proofs.lemmas.List.{get_or-replicate, length-map, length-replicate}
 use Rattle.std.proofs.lemmas.List.Sums.{AllPass-from_list_all, list_all-from_AllPass}
 use Rattle.std.proofs.lemmas.Simd.{map-map}
-use Rattle.std.proofs.lemmas.List.Elements.{All-from_get_or, Contains-get_or}
+use Rattle.std.proofs.lemmas.List.Elements.{All-from_get_or, All-head, All-replicate, All-tail, Contains-get_or}
 use Rattle.std.proofs.lemmas.List.Folds.{list_any_none}
 use Rattle.location_terms.specs.declared.claim.Claim.{Claim}
 use Rattle.location_terms.specs.declared.split.Split.{Split}
@@ -18,18 +18,22 @@ use Rattle.location_terms.specs.declared.limits.TheConstants.{MAX_SCALE, MAX_VAL
 use Rattle.location_terms.specs.Instance.{Instance, IsValid, site_ids, customer_ids, Site as SiteRow, site_at}
 use Rattle.location_terms.specs.Box.{Path, must_open, must_close}
 use Rattle.location_terms.specs.declared.status.SiteStatus.TheVariants.{Free}
+use Rattle.location_terms.specs.declared.form.LeafForm.{LeafForm}
+use Rattle.location_terms.specs.declared.form.LeafForm.TheVariants.{Prices, Whole}
 use Rattle.location_terms.specs.Bound.{Duals}
+use Rattle.location_terms.specs.Knapsack.{has_small_knapsacks}
+use Rattle.location_terms.specs.Leaf.{PricesSuit, KnapsacksSuit}
 use Rattle.location_terms.proofs.Places.{length-site_ids, slice_index-site_ids}
 use Rattle.location_terms.proofs.Rising.{one_place}
 use Rattle.number_words.specs.Line.{spaced}
 use Rattle.number_words.specs.Number.{number_text, is_rising}
 use Rattle.certificate_lines.specs.declared.kind.CertKind.TheVariants.{WrongStatus}
-use Rattle.certificate_lines.specs.Shape.{row, any_count, just, even_count, text_of_shape, Word}
-use Rattle.certificate_lines.specs.Text.{counts_line, ids_where, header_words, sizes_line, claim_line, split_line, priced, is_all_free}
+use Rattle.certificate_lines.specs.Shape.{Shape, row, any_count, just, even_count, words_of_shape, text_of_shape, numbers_in, Word}
+use Rattle.certificate_lines.specs.Text.{counts_line, ids_where, header_words, sizes_line, claim_line, split_line, priced, third_line, is_all_free}
 use Rattle.certificate_lines.specs.Due.{Due, HeaderDue, SizesDue, MustOpenDue, MustClosedDue, ClaimDue, OpenDue, ServeDue, NodeDue, ValuesDue, PricesDue, EndDue, NothingDue, Shown, NothingShown, PlanShown, LeafShown, behind_claim, behind_leaf}
-use Rattle.certificate_lines.specs.Lines.{Said, then_due, unless, read_shape, is_up_to, is_of_size, is_id, is_same, is_among, same_ids, ids, header_shape, behind_sizes, sizes_shape, sizes_said, read_status, status_said, open_said, plan_from, serve_said, site_shape, lane_shape, leaf_shape, split_said, site_said, lane_said, leaf_said, values_said, Price, pairs_of, lacks_cap, is_in_range, price_in, prices_said, read_line, is_size, read_header, read_claim}
+use Rattle.certificate_lines.specs.Lines.{Said, then_due, unless, read_or, read_shape, read_prices, whole_shape, whole_said, is_up_to, is_of_size, is_id, is_same, is_among, same_ids, ids, header_shape, behind_sizes, sizes_shape, sizes_said, read_status, status_said, open_said, plan_from, serve_said, site_shape, lane_shape, leaf_shape, split_said, site_said, lane_said, leaf_said, values_said, Price, pairs_of, lacks_cap, is_in_range, price_in, prices_said, read_line, is_size, read_header, read_claim}
 use Rattle.certificate_lines.specs.Follow.{HasSmallCosts}
-use Rattle.certificate_lines.proofs.Shapes.{passes, has_words, shape_read, shape_text, text_or, unless-holds, other_read}
+use Rattle.certificate_lines.proofs.Shapes.{IsText, passes, has_words, shape_read, shape_text, text_or, unless-holds, other_read}
 use Rattle.certificate_lines.proofs.Ids.{rises, is_same-is, among-is, all_among-are, same_ids-are, sites_are, ids-pos, among-known, id-known, all_known, same_ids-pos, sites_pass, where_ids}
 use Rattle.certificate_lines.proofs.Prices.{up_to-is, ArePrices, are_prices, are_placed, even-priced, pairs_pass, rising-pairs, prices-by_place}
 use Rattle.certificate_lines.proofs.ClaimWords.{claim-is, claim-read}
@@ -37,6 +41,10 @@ use Rattle.certificate_lines.proofs.ClaimWords.{claim-is, claim-read}
 -- what is due behind a line, and what it shows
 abbrev pub Says : Due → Shown → Due × Shown → Type 0
 Says due shown read = then_due due shown ≡ Ok read
+
+-- duals of these numbers
+abbrev pub duals_in : LeafForm → ℕ → ℤ → List ℤ → List ℕ → Duals
+duals_in form q nu v u = record { form = form; q = q; nu = nu; v = v; u = u }
 
 -- the first line of a node
 pub data NodeLine (I : Instance) (claim : Claim) (path : Path) (line : List ℕ) (read : Due × Shown) : Type 0 where
@@ -54,7 +62,7 @@ IsSpelled I (OpenDue claim) line read = (sites : List ℕ) × IsStrictlyIncreasi
 IsSpelled I (ServeDue claim sites) line read = (servers : List ℕ) × (length servers ≡ length I.customers) × All (Contains (site_ids I)) servers × (line ≡ counts_line (codes "serve") servers) × Says (NodeDue claim []) (PlanShown claim (plan_from I sites servers)) read
 IsSpelled I (NodeDue claim path) line read = NodeLine I claim path line read
 IsSpelled I (ValuesDue claim path q nu) line read = (v : List ℤ) × (length v ≡ length I.customers) × All (λ z. unsigned_abs z ≤ MAX_VALUE) v × (line ≡ spaced (codes "v" ∷ map number_text v)) × Says (PricesDue claim path q nu v) NothingShown read
-IsSpelled I (PricesDue claim path q nu v) line read = (u : List ℕ) × ArePrices I u × (IsValid I → line ≡ counts_line (codes "u") (priced (site_ids I) u)) × Says (behind_leaf claim path) (LeafShown claim path (record { q = q; nu = nu; v = v; u = u })) read
+IsSpelled I (PricesDue claim path q nu v) line read = (form : LeafForm) × (u : List ℕ) × ArePrices I u × PricesSuit form u × KnapsacksSuit form I × (IsValid I → line ≡ third_line form (site_ids I) (duals_in form q nu v u)) × Says (behind_leaf claim path) (LeafShown claim path (duals_in form q nu v u)) read
 IsSpelled I (EndDue claim) line read = (line ≡ codes "end") × Says (NothingDue claim) NothingShown read
 IsSpelled I (NothingDue claim) line read = ⊥
 
@@ -67,6 +75,11 @@ counts-read : (word : List ℕ) (many : ℕ → Bool) (ns : List ℕ) (say : Lis
 counts-read word many ns say words fit =
     ap (λ line. read_shape (row word many) line say) (sym (counts_text word many ns))
     ∙ shape_read (row word many) (map pos ns) say _ words (ap many (length-map ns pos) ∙ fit)
+
+-- and is none of another shape
+counts-other : (shape : Shape) (word : List ℕ) (many : ℕ → Bool) (ns : List ℕ) (say : List ℤ → Said) (otherwise : Said) → has_words (row word many) ≡ true → numbers_in shape (words_of_shape (row word many) (map pos ns)) ≡ None → read_or shape (counts_line word ns) say otherwise ≡ otherwise
+counts-other shape word many ns say otherwise words none =
+    ap (λ line. read_or shape line say otherwise) (sym (counts_text word many ns)) ∙ other_read shape (row word many) (map pos ns) say otherwise words none
 
 counts_are : (word line : List ℕ) (many : ℕ → Bool) (zs : List ℤ) (ns : List ℕ) → line ≡ text_of_shape (row word many) zs → zs ≡ map pos ns → line ≡ counts_line word ns
 counts_are word line many zs ns text are = text ∙ ap (text_of_shape (row word many)) are ∙ counts_text word many ns
@@ -176,7 +189,29 @@ prices_are I claim path q nu v line zs read even text e =
     let range = passes _ _ _ _ plain.1 in
     let known = passes _ _ _ _ range.1 in
     let both = and_parts (is_rising (map (λ p. p.0) ps)) (list_all (λ p. not (is_same p.1 0)) ps) plain.0 in
-    (map (price_in ps) (site_ids I), are_prices I ps range.0, (λ valid. counts_are (codes "u") line even_count zs (priced (site_ids I) (map (price_in ps) (site_ids I))) text (are_placed (site_ids I) zs (rises (site_ids I) valid.sites_named.rising) even both.0 known.0 (small_prices I ps range.0) both.1)), known.1)
+    (Prices, map (price_in ps) (site_ids I), are_prices I ps range.0, tt, tt, (λ valid. counts_are (codes "u") line even_count zs (priced (site_ids I) (map (price_in ps) (site_ids I))) text (are_placed (site_ids I) zs (rises (site_ids I) valid.sites_named.rising) even both.0 known.0 (small_prices I ps range.0) both.1)), known.1)
+
+-- a leaf of whole knapsacks has prices of 0
+none_priced : (I : Instance) → ArePrices I (replicate (length I.sites) 0)
+none_priced I = record {
+  long = length-replicate (length I.sites) 0;
+  small = All-replicate (λ x. x ≤ MAX_MULTIPLIER) (length I.sites) 0 (omega arith);
+  unpriced = λ i within free. get_or-replicate (length I.sites) i 0 0 within;
+}
+
+whole_is : (I : Instance) (claim : Claim) (path : Path) (q : ℕ) (nu : ℤ) (v : List ℤ) (line : List ℕ) (read : Due × Shown) → IsText whole_shape line (λ zs. whole_said I claim path q nu v) read → IsSpelled I (PricesDue claim path q nu v) line read
+whole_is I claim path q nu v line read t =
+    let small = passes _ _ _ _ t.said in
+    (Whole, replicate (length I.sites) 0, none_priced I, All-replicate (λ x. x ≡ 0) (length I.sites) 0 refl, small.0, (λ valid. t.text ∙ ap (text_of_shape whole_shape) (no_numbers t.zs t.fit)), small.1)
+
+third-spelled : (I : Instance) (claim : Claim) (path : Path) (q : ℕ) (nu : ℤ) (v : List ℤ) (line : List ℕ) (read : Due × Shown) → read_line I (PricesDue claim path q nu v) line ≡ Ok read → IsSpelled I (PricesDue claim path q nu v) line read
+third-spelled I claim path q nu v line read e =
+    elim (text_or whole_shape line (λ zs. whole_said I claim path q nu v) _ read e) [
+      | inl t ↦ whole_is I claim path q nu v line read t
+      | inr other ↦
+          let t = shape_text (row (codes "u") even_count) line (λ zs. prices_said I claim path q nu v (pairs_of zs)) read other in
+          prices_are I claim path q nu v line t.zs read t.fit t.text t.said
+    ]
 
 -- a line that is read without a fault is spelled so
 pub line-spelled : (I : Instance) (due : Due) (line : List ℕ) (read : Due × Shown) → read_line I due line ≡ Ok read → IsSpelled I due line read
@@ -189,9 +224,7 @@ line-spelled I (OpenDue claim) line read e = open-spelled I claim line read e
 line-spelled I (ServeDue claim sites) line read e = serve-spelled I claim sites line read e
 line-spelled I (NodeDue claim path) line read e = node-spelled I claim path line read e
 line-spelled I (ValuesDue claim path q nu) line read e = values-spelled I claim path q nu line read e
-line-spelled I (PricesDue claim path q nu v) line read e =
-    let t = shape_text (row (codes "u") even_count) line (λ zs. prices_said I claim path q nu v (pairs_of zs)) read e in
-    prices_are I claim path q nu v line t.zs read t.fit t.text t.said
+line-spelled I (PricesDue claim path q nu v) line read e = third-spelled I claim path q nu v line read e
 line-spelled I (EndDue claim) line read e =
     let t = shape_text (row (codes "end") (just 0)) line (λ zs. then_due (NothingDue claim) NothingShown) read e in
     (t.text ∙ ap (text_of_shape (row (codes "end") (just 0))) (no_numbers t.zs t.fit), t.said)
@@ -273,17 +306,34 @@ has_cap I u i valid prices among some =
     omega (arith, free, some))))
 
 prices-read : (I : Instance) (claim : Claim) (path : Path) (q : ℕ) (nu : ℤ) (v : List ℤ) (u : List ℕ) → IsValid I → ArePrices I u
-    → read_line I (PricesDue claim path q nu v) (counts_line (codes "u") (priced (site_ids I) u)) ≡ then_due (behind_leaf claim path) (LeafShown claim path (record { q = q; nu = nu; v = v; u = u }))
+    → read_line I (PricesDue claim path q nu v) (counts_line (codes "u") (priced (site_ids I) u)) ≡ then_due (behind_leaf claim path) (LeafShown claim path (duals_in Prices q nu v u))
 prices-read I claim path q nu v u valid prices =
     let ss = site_ids I in
     let up = rises ss valid.sites_named.rising in
     let known : (i : ℕ) → i < length ss → Contains ss (get_or ss i 0) = λ i within. Contains-get_or ss i 0 within in
-    let with_prices : List ℕ → Duals = λ us. record { q = q; nu = nu; v = v; u = us } in
-    counts-read (codes "u") even_count (priced ss u) (λ zs. prices_said I claim path q nu v (pairs_of zs)) refl (even-priced ss u)
+    counts-other whole_shape (codes "u") even_count (priced ss u) (λ zs. whole_said I claim path q nu v) (read_prices I claim path q nu v (counts_line (codes "u") (priced ss u))) refl refl
+    ∙ counts-read (codes "u") even_count (priced ss u) (λ zs. prices_said I claim path q nu v (pairs_of zs)) refl (even-priced ss u)
     ∙ unless-holds _ _ _ (and_from _ _ (rising-pairs ss u up) (pairs_pass (λ p. not (is_same p.1 0)) ss u (λ i within some. not_from_false _ (ne_eqb (get_or u i 0) 0 (λ e. omega (arith, some, e))))))
     ∙ unless-holds _ _ _ (pairs_pass (is_in_range I) ss u (λ i within some. and_from _ _ (and_from _ _ (id-known ss I.next_site _ valid.sites_named (known i within)) (le-leb (get_or u i 0) MAX_MULTIPLIER (prices.small i 0 (omega (arith, within, prices.long, length-site_ids I))))) (not_from_false _ (has_cap I u i valid prices within some))))
     ∙ unless-holds _ _ _ (pairs_pass (λ p. is_among ss p.0) ss u (λ i within some. among-known ss _ (known i within)))
-    ∙ ap (λ us. then_due (behind_leaf claim path) (LeafShown claim path (with_prices us))) (prices-by_place ss u (prices.long ∙ sym (length-site_ids I)) up)
+    ∙ ap (λ us. then_due (behind_leaf claim path) (LeafShown claim path (duals_in Prices q nu v us))) (prices-by_place ss u (prices.long ∙ sym (length-site_ids I)) up)
+
+-- prices of 0 are so many zeros
+all_zeros : (us : List ℕ) → All (λ u. u ≡ 0) us → us ≡ replicate (length us) 0
+all_zeros [] none = refl
+all_zeros (u ∷ us) none = ap (λ x. x ∷ us) (All-head (λ x. x ≡ 0) u us none) ∙ ap (λ xs. 0 ∷ xs) (all_zeros us (All-tail (λ x. x ≡ 0) u us none))
+
+whole-read : (I : Instance) (claim : Claim) (path : Path) (q : ℕ) (nu : ℤ) (v : List ℤ) (u : List ℕ) → ArePrices I u → All (λ x. x ≡ 0) u → has_small_knapsacks I ≡ true
+    → read_line I (PricesDue claim path q nu v) (codes "whole") ≡ then_due (behind_leaf claim path) (LeafShown claim path (duals_in Whole q nu v u))
+whole-read I claim path q nu v u prices none small =
+    shape_read whole_shape [] (λ zs. whole_said I claim path q nu v) (read_prices I claim path q nu v (codes "whole")) refl refl
+    ∙ unless-holds _ _ _ small
+    ∙ ap (λ us. then_due (behind_leaf claim path) (LeafShown claim path (duals_in Whole q nu v us))) (ap (λ n. replicate n 0) (sym prices.long) ∙ sym (all_zeros u none))
+
+third-read : (I : Instance) (claim : Claim) (path : Path) (q : ℕ) (nu : ℤ) (v : List ℤ) (form : LeafForm) (u : List ℕ) → IsValid I → ArePrices I u → PricesSuit form u → KnapsacksSuit form I
+    → read_line I (PricesDue claim path q nu v) (third_line form (site_ids I) (duals_in form q nu v u)) ≡ then_due (behind_leaf claim path) (LeafShown claim path (duals_in form q nu v u))
+third-read I claim path q nu v Prices u valid prices none small = prices-read I claim path q nu v u valid prices
+third-read I claim path q nu v Whole u valid prices none small = whole-read I claim path q nu v u prices none small
 
 -- and a line that is spelled so is read, of a valid instance
 pub line-read : (I : Instance) (due : Due) (line : List ℕ) (read : Due × Shown) → IsValid I → IsSpelled I due line read → read_line I due line ≡ Ok read
@@ -303,6 +353,6 @@ line-read I (ValuesDue claim path q nu) line read valid (v, long, small, text, i
     ap (read_line I (ValuesDue claim path q nu)) text
     ∙ shape_read (row (codes "v") (just (length I.customers))) v (values_said claim path q nu) _ refl (eq-eqb _ _ long)
     ∙ unless-holds _ _ _ (list_all-from_AllPass (is_of_size MAX_VALUE) v (λ k d within. le-leb _ MAX_VALUE (small k d within))) ∙ is
-line-read I (PricesDue claim path q nu v) line read valid (u, prices, text, is) = ap (read_line I (PricesDue claim path q nu v)) (text valid) ∙ prices-read I claim path q nu v u valid prices ∙ is
+line-read I (PricesDue claim path q nu v) line read valid (form, u, prices, none, small, text, is) = ap (read_line I (PricesDue claim path q nu v)) (text valid) ∙ third-read I claim path q nu v form u valid prices none small ∙ is
 line-read I (EndDue claim) line read valid (text, is) = ap (read_line I (EndDue claim)) text ∙ is
 line-read I (NothingDue claim) line read valid spells = absurd spells

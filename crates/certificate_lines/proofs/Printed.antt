@@ -13,7 +13,7 @@ use Rattle.location_terms.specs.Box.{Path, must_open, must_close}
 use Rattle.certificate_lines.specs.Shape.{Shape, row, any_count, just, even_count, words_of_shape}
 use Rattle.certificate_lines.specs.Text.{claim_words, text_of_lines}
 use Rattle.certificate_lines.specs.Due.{Due, HeaderDue, SizesDue, MustOpenDue, MustClosedDue, ClaimDue, OpenDue, ServeDue, NodeDue, ValuesDue, PricesDue, EndDue, NothingDue, Shown, NothingShown}
-use Rattle.certificate_lines.specs.Lines.{Said, then_due, read_shape, header_shape, sizes_shape, sizes_said, status_said, open_said, serve_said, site_shape, lane_shape, leaf_shape, site_said, lane_said, leaf_said, values_said, pairs_of, prices_said, read_line}
+use Rattle.certificate_lines.specs.Lines.{Said, then_due, read_shape, header_shape, sizes_shape, sizes_said, status_said, open_said, serve_said, site_shape, lane_shape, leaf_shape, site_said, lane_said, leaf_said, values_said, pairs_of, prices_said, whole_shape, whole_said, read_line}
 use Rattle.certificate_lines.specs.Follow.{follow}
 use Rattle.certificate_lines.proofs.Shapes.{IsText, has_words, words-of_shape, shape_text, text_or}
 use Rattle.certificate_lines.proofs.ClaimWords.{are_words, claim-is}
@@ -84,6 +84,13 @@ node_is_line I claim path line read e =
       ]
     ]
 
+third_is_line : (I : Instance) (claim : Claim) (path : Path) (q : ℕ) (nu : ℤ) (v : List ℤ) (line : List ℕ) (read : Due × Shown) → read_line I (PricesDue claim path q nu v) line ≡ Ok read → IsLine line
+third_is_line I claim path q nu v line read e =
+    elim (text_or whole_shape line (λ zs. whole_said I claim path q nu v) _ read e) [
+      | inl t ↦ text_is_line whole_shape line (λ zs. whole_said I claim path q nu v) read refl t
+      | inr other ↦ shape_is_line (row (codes "u") even_count) line (λ zs. prices_said I claim path q nu v (pairs_of zs)) read refl other
+    ]
+
 read_is_line : (I : Instance) (due : Due) (line : List ℕ) (read : Due × Shown) → read_line I due line ≡ Ok read → IsLine line
 read_is_line I HeaderDue line read e = shape_is_line (header_shape I) line _ read (header-words I) e
 read_is_line I SizesDue line read e = shape_is_line sizes_shape line (sizes_said I) read refl e
@@ -96,7 +103,7 @@ read_is_line I (OpenDue claim) line read e = shape_is_line (row (codes "open") a
 read_is_line I (ServeDue claim sites) line read e = shape_is_line (row (codes "serve") (just (length I.customers))) line (serve_said I claim sites) read refl e
 read_is_line I (NodeDue claim path) line read e = node_is_line I claim path line read e
 read_is_line I (ValuesDue claim path q nu) line read e = shape_is_line (row (codes "v") (just (length I.customers))) line (values_said claim path q nu) read refl e
-read_is_line I (PricesDue claim path q nu v) line read e = shape_is_line (row (codes "u") even_count) line (λ zs. prices_said I claim path q nu v (pairs_of zs)) read refl e
+read_is_line I (PricesDue claim path q nu v) line read e = third_is_line I claim path q nu v line read e
 read_is_line I (EndDue claim) line read e = shape_is_line (row (codes "end") (just 0)) line (λ zs. then_due (NothingDue claim) NothingShown) read refl e
 read_is_line I (NothingDue claim) line read e = absurd (cc)
 

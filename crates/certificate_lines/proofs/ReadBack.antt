@@ -12,7 +12,7 @@ use Rattle.location_terms.specs.Plan.{Plan}
 use Rattle.location_terms.specs.Box.{Path, must_open, must_close}
 use Rattle.location_terms.specs.Split.{first_step, second_step}
 use Rattle.location_terms.specs.Bound.{Duals}
-use Rattle.location_terms.specs.Fit.{DualsFit}
+use Rattle.location_terms.specs.Leaf.{LeafFits}
 use Rattle.location_terms.specs.Tree.{Node, Leaf, Fork, SplitsAmong, leaves_below}
 use Rattle.location_terms.specs.Certificate.{Certificate, cost_claimed}
 use Rattle.location_terms.proofs.Places.{length-customer_ids}
@@ -20,11 +20,12 @@ use Rattle.branch_tree.specs.Walk.{turned}
 use Rattle.branch_tree.proofs.Ahead.{turned_root}
 use Rattle.number_words.specs.Line.{spaced}
 use Rattle.number_words.specs.Number.{number_text}
-use Rattle.certificate_lines.specs.Text.{is_all_free, ids_where, counts_line, header_words, sizes_line, status_lines, claim_line, split_line, plan_lines, priced, leaf_lines, node_lines, certificate_lines}
+use Rattle.certificate_lines.specs.Text.{is_all_free, ids_where, counts_line, header_words, sizes_line, status_lines, claim_line, split_line, plan_lines, third_line, leaf_lines, node_lines, certificate_lines}
 use Rattle.certificate_lines.specs.Due.{Due, HeaderDue, SizesDue, MustOpenDue, MustClosedDue, ClaimDue, OpenDue, ServeDue, NodeDue, ValuesDue, PricesDue, EndDue, NothingDue, Shown, NothingShown, PlanShown, SplitShown, LeafShown, behind_claim, behind_leaf, node_or_end}
 use Rattle.certificate_lines.specs.Lines.{behind_sizes, plan_from}
 use Rattle.certificate_lines.specs.Follow.{shown_list, follow, IsSpellable, HasPlanWhere, HasText, plan_shown, nodes_shown, shown_by}
 use Rattle.certificate_lines.proofs.Following.{turned_below_first, turned_below_second, follow-line, follow-append}
+use Rattle.certificate_lines.proofs.Prices.{ArePrices}
 use Rattle.certificate_lines.proofs.LineSpelling.{on_split, on_leaf, IsSpelled, line-read}
 
 -- a line that is spelled, in front of lines that are read
@@ -76,15 +77,17 @@ plan_back I (Bracket low (Some high)) None valid has = absurd has
 plan_back I (Bracket low (Some high)) (Some P) valid has = both_of_plan I (Bracket low (Some high)) P valid has
 
 -- a leaf is read from its three lines
-leaf_back : (I : Instance) (claim : Claim) (path : Path) (d : Duals) → IsValid I → DualsFit I d → follow I (NodeDue claim path) (leaf_lines (site_ids I) d) ≡ Some (behind_leaf claim path, LeafShown claim path d ∷ [])
+leaf_back : (I : Instance) (claim : Claim) (path : Path) (d : Duals) → IsValid I → LeafFits I d → follow I (NodeDue claim path) (leaf_lines (site_ids I) d) ≡ Some (behind_leaf claim path, LeafShown claim path d ∷ [])
 leaf_back I claim path d valid fit =
     let end = behind_leaf claim path in
     let shown = LeafShown claim path d in
     let values = spaced (codes "v" ∷ map number_text d.v) in
-    let prices = counts_line (codes "u") (priced (site_ids I) d.u) in
-    spelled_first I (NodeDue claim path) (ValuesDue claim path d.q d.nu) end (spaced (codes "leaf" ∷ number_text (pos d.q) ∷ number_text d.nu ∷ [])) (values ∷ prices ∷ []) NothingShown (shown ∷ []) valid (on_leaf d.q d.nu fit.in_limits.scale fit.in_limits.count_price refl refl)
-    (spelled_first I (ValuesDue claim path d.q d.nu) (PricesDue claim path d.q d.nu d.v) end values (prices ∷ []) NothingShown (shown ∷ []) valid (d.v, fit.of_instance.customers, fit.in_limits.values, refl, refl)
-    (spelled_first I (PricesDue claim path d.q d.nu d.v) end end prices [] shown [] valid (d.u, record { long = fit.of_instance.sites; small = fit.in_limits.multipliers; unpriced = fit.of_instance.unpriced }, (λ v. refl), refl) refl))
+    let third = third_line d.form (site_ids I) d in
+    let numbers = fit.numbers in
+    let prices : ArePrices I d.u = record { long = numbers.of_instance.sites; small = numbers.in_limits.multipliers; unpriced = numbers.of_instance.unpriced } in
+    spelled_first I (NodeDue claim path) (ValuesDue claim path d.q d.nu) end (spaced (codes "leaf" ∷ number_text (pos d.q) ∷ number_text d.nu ∷ [])) (values ∷ third ∷ []) NothingShown (shown ∷ []) valid (on_leaf d.q d.nu numbers.in_limits.scale numbers.in_limits.count_price refl refl)
+    (spelled_first I (ValuesDue claim path d.q d.nu) (PricesDue claim path d.q d.nu d.v) end values (third ∷ []) NothingShown (shown ∷ []) valid (d.v, numbers.of_instance.customers, numbers.in_limits.values, refl, refl)
+    (spelled_first I (PricesDue claim path d.q d.nu d.v) end end third [] shown [] valid (d.form, d.u, prices, fit.prices, fit.knapsacks, (λ v. refl), refl) refl))
 
 -- what is read of a node below a path
 abbrev IsBack : Instance → Claim → Path → Node → Type 0
@@ -101,10 +104,10 @@ children I claim path split a b on_a on_b =
     (on_b ∙ ap (λ o. Some (node_or_end claim o, nodes_shown claim below_b b)) (turned_below_second split path))
 
 -- leaves that fit fit in both parts of their list
-fits_parts : (I : Instance) (xs ys : List (Path × Duals)) → All (λ l. DualsFit I l.1) (xs ++ ys) → All (λ l. DualsFit I l.1) xs × All (λ l. DualsFit I l.1) ys
-fits_parts I xs ys fit = (λ k d within. subst (λ l. DualsFit I l.1) (get_or_append_left xs ys d k within) (fit k d (omega (arith, length-append xs ys))), λ k d within. subst (λ l. DualsFit I l.1) (get_or-append-add xs ys k d) (fit (length xs + k) d (omega (arith, length-append xs ys))))
+fits_parts : (I : Instance) (xs ys : List (Path × Duals)) → All (λ l. LeafFits I l.1) (xs ++ ys) → All (λ l. LeafFits I l.1) xs × All (λ l. LeafFits I l.1) ys
+fits_parts I xs ys fit = (λ k d within. subst (λ l. LeafFits I l.1) (get_or_append_left xs ys d k within) (fit k d (omega (arith, length-append xs ys))), λ k d within. subst (λ l. LeafFits I l.1) (get_or-append-add xs ys k d) (fit (length xs + k) d (omega (arith, length-append xs ys))))
 
-nodes_back : (I : Instance) (claim : Claim) (path : Path) (t : Node) → IsValid I → SplitsAmong (site_ids I) (customer_ids I) t → All (λ l. DualsFit I l.1) (leaves_below path t) → IsBack I claim path t
+nodes_back : (I : Instance) (claim : Claim) (path : Path) (t : Node) → IsValid I → SplitsAmong (site_ids I) (customer_ids I) t → All (λ l. LeafFits I l.1) (leaves_below path t) → IsBack I claim path t
 nodes_back I claim path (Leaf d) valid splits fit = leaf_back I claim path d valid (fit 0 (path, d) (omega arith))
 nodes_back I claim path (Fork split a b) valid splits fit =
     let below_a = path ++ first_step split ∷ [] in

@@ -13,7 +13,7 @@ use Rattle.location_terms.specs.Plan.{Plan}
 use Rattle.location_terms.specs.Box.{Path, must_open, must_close}
 use Rattle.location_terms.specs.Split.{first_step, second_step}
 use Rattle.location_terms.specs.Bound.{Duals}
-use Rattle.location_terms.specs.Fit.{DualsFit}
+use Rattle.location_terms.specs.Leaf.{LeafFits}
 use Rattle.location_terms.specs.Tree.{Node, Leaf, Fork, SplitsAmong, HasLists, leaves_below}
 use Rattle.location_terms.specs.Certificate.{Certificate, cost_claimed}
 use Rattle.location_terms.proofs.Places.{length-site_ids, length-customer_ids}
@@ -26,7 +26,7 @@ use Rattle.certificate_lines.specs.Due.{Due, HeaderDue, SizesDue, MustOpenDue, M
 use Rattle.certificate_lines.specs.Lines.{behind_sizes, plan_from}
 use Rattle.certificate_lines.specs.Follow.{shown_list, follow, HasSmallCosts, IsSpellable, HasPlanWhere, HasText, plan_shown, nodes_shown, shown_by}
 use Rattle.certificate_lines.proofs.Following.{turned_below_first, turned_below_second, first_read, none_left, none_shown}
-use Rattle.certificate_lines.proofs.LineSpelling.{Says, NodeLine, on_split, on_leaf, IsSpelled, line-spelled}
+use Rattle.certificate_lines.proofs.LineSpelling.{Says, duals_in, NodeLine, on_split, on_leaf, IsSpelled, line-spelled}
 use Rattle.certificate_lines.proofs.Gives.{leaf_fits}
 
 -- a plan that is read can be spelled
@@ -45,10 +45,10 @@ spellable I sites servers valid rise known long served_known =
       servers_known = seconds-known (site_ids I) (customer_ids I) servers served_known;
     }
 
-fit_lists : (I : Instance) (leaves : List (Path × Duals)) → All (λ (l : Path × Duals). DualsFit I l.1) leaves → All (λ (l : Path × Duals). HasLists (length (site_ids I)) (length (customer_ids I)) l.1) leaves
+fit_lists : (I : Instance) (leaves : List (Path × Duals)) → All (λ (l : Path × Duals). LeafFits I l.1) leaves → All (λ (l : Path × Duals). HasLists (length (site_ids I)) (length (customer_ids I)) l.1) leaves
 fit_lists I leaves fit =
-    All-weaker (λ (l : Path × Duals). DualsFit I l.1) (λ (l : Path × Duals). HasLists (length (site_ids I)) (length (customer_ids I)) l.1)
-    (λ l f. (f.of_instance.sites ∙ sym (length-site_ids I), f.of_instance.customers ∙ sym (length-customer_ids I), f.in_limits)) leaves fit
+    All-weaker (λ (l : Path × Duals). LeafFits I l.1) (λ (l : Path × Duals). HasLists (length (site_ids I)) (length (customer_ids I)) l.1)
+    (λ l f. (f.numbers.of_instance.sites ∙ sym (length-site_ids I), f.numbers.of_instance.customers ∙ sym (length-customer_ids I), f.numbers.in_limits, f.prices)) leaves fit
 
 -- the lines of statuses
 abbrev two_lines : Instance → List (List ℕ)
@@ -163,7 +163,7 @@ module _ (I : Instance) (last : Claim) where
       record NodeRead (path : Path) (lines : List (List ℕ)) (all : List Shown) : Type 0 where
         node : Node
         splits : SplitsAmong (site_ids I) (customer_ids I) node
-        fit : All (λ (l : Path × Duals). DualsFit I l.1) (leaves_below path node)
+        fit : All (λ (l : Path × Duals). LeafFits I l.1) (leaves_below path node)
         begun : Begun (node_lines (site_ids I) node) (nodes_shown claim path node) (node_or_end claim (turned path)) lines all
 
       -- the two children of a split, one behind the other
@@ -171,7 +171,7 @@ module _ (I : Instance) (last : Claim) where
         a : Node
         b : Node
         splits : SplitsAmong (site_ids I) (customer_ids I) a × SplitsAmong (site_ids I) (customer_ids I) b
-        fit : All (λ (l : Path × Duals). DualsFit I l.1) (leaves_below (path ++ first_step split ∷ []) a ++ leaves_below (path ++ second_step split ∷ []) b)
+        fit : All (λ (l : Path × Duals). LeafFits I l.1) (leaves_below (path ++ first_step split ∷ []) a ++ leaves_below (path ++ second_step split ∷ []) b)
         begun : Begun (node_lines (site_ids I) a ++ node_lines (site_ids I) b) (nodes_shown claim (path ++ first_step split ∷ []) a ++ nodes_shown claim (path ++ second_step split ∷ []) b) (node_or_end claim (turned path)) lines all
 
       leaf_read : (path : Path) (q : ℕ) (nu : ℤ) (lines : List (List ℕ)) (all : List Shown) → q ≤ MAX_SCALE → unsigned_abs nu ≤ MAX_VALUE → Begun (spaced (codes "leaf" ∷ number_text (pos q) ∷ number_text nu ∷ []) ∷ []) [] (ValuesDue claim path q nu) lines all → NodeRead path lines all
@@ -179,12 +179,12 @@ module _ (I : Instance) (last : Claim) where
           let f = first (ValuesDue claim path q nu) b.rest b.left (λ d. cc) b.follows in
           let c = put f f.is.3 f.is.4 in
           let g = first (PricesDue claim path q nu f.is.0) c.rest c.left (λ d. cc) c.follows in
-          let d : Duals = record { q = q; nu = nu; v = f.is.0; u = g.is.0 } in
+          let d = duals_in g.is.0 q nu f.is.0 g.is.1 in
           record {
             node = Leaf d;
             splits = tt;
-            fit = All-cons (λ (l : Path × Duals). DualsFit I l.1) (path, d) [] (leaf_fits I q nu d.v d.u (scale, price, f.is.1, f.is.2) g.is.1) (All-nil (λ (l : Path × Duals). DualsFit I l.1));
-            begun = both b (both c (put g (g.is.2 valid) g.is.3));
+            fit = All-cons (λ (l : Path × Duals). LeafFits I l.1) (path, d) [] (leaf_fits I g.is.0 q nu f.is.0 g.is.1 (scale, price, f.is.1, f.is.2) g.is.2 g.is.3 g.is.4) (All-nil (λ (l : Path × Duals). LeafFits I l.1));
+            begun = both b (both c (put g (g.is.5 valid) g.is.6));
           }
 
       module _ (n : ℕ) (below : (path : Path) (lines : List (List ℕ)) (all : List Shown) → length lines ≤ n → Ends (NodeDue claim path) lines all → NodeRead path lines all) where
@@ -199,7 +199,7 @@ module _ (I : Instance) (last : Claim) where
               a = x.node;
               b = y.node;
               splits = (x.splits, y.splits);
-              fit = All-append (λ (l : Path × Duals). DualsFit I l.1) (leaves_below (path ++ one ∷ []) x.node) (leaves_below (path ++ two ∷ []) y.node) x.fit y.fit;
+              fit = All-append (λ (l : Path × Duals). LeafFits I l.1) (leaves_below (path ++ one ∷ []) x.node) (leaves_below (path ++ two ∷ []) y.node) x.fit y.fit;
               begun = both a (leaves (ap (node_or_end claim) (turned_below_second split path)) y.begun);
             }
 

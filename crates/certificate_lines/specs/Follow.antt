@@ -7,7 +7,7 @@ use Rattle.location_terms.specs.Instance.{Instance, site_ids, customer_ids}
 use Rattle.location_terms.specs.Plan.{Plan, IsPlan, served}
 use Rattle.location_terms.specs.Box.{Path}
 use Rattle.location_terms.specs.Split.{first_step, second_step}
-use Rattle.location_terms.specs.Fit.{DualsFit}
+use Rattle.location_terms.specs.Leaf.{LeafFits}
 use Rattle.location_terms.specs.Tree.{Node, Leaf, Fork, IsTree, StandsOn, leaves_of}
 use Rattle.location_terms.specs.Certificate.{Certificate, cost_claimed}
 use Rattle.certificate_lines.specs.Due.{Due, Shown, NothingShown, PlanShown, SplitShown, LeafShown}
@@ -54,7 +54,7 @@ HasPlanWhere I (Some cost) plan = IsSomeAnd plan (IsSpellable I)
 pub record HasText (I : Instance) (cert : Certificate) : Type 0 where
   pub tree : IsTree cert.tree
   pub stands : StandsOn cert.tree I
-  pub fit : All (λ l. DualsFit I l.1) (leaves_of cert.tree)
+  pub fit : All (λ l. LeafFits I l.1) (leaves_of cert.tree)
   pub costs : HasSmallCosts cert.claim
   pub plan : HasPlanWhere I (cost_claimed cert.claim) cert.plan
 

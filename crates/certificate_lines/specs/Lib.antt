@@ -8,4 +8,3 @@ pub mod Length
 pub mod Lines
 pub mod Shape
 pub mod Text
-pub mod ThirdLine

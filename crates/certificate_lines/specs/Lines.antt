@@ -1,14 +1,16 @@
 -- What a line of a certificate's text says where it is due, or the first kind of fault that it has. The kinds are tried in the order of CertKind, each over the whole line.
-use Rattle.std.specs.Prelude.{ℕ, ◌==◌, Bool, true, false, ◌&&◌, ◌||◌, not, List, [], ◌∷◌, ◌++◌, length, map, zip, drop, codes, Option, None, Some, Result, Ok, Err, ℤ, pos, negsuc, nat_le, unsigned_abs, bytes_eq, is_none, if◌then◌else◌}
+use Rattle.std.specs.Prelude.{ℕ, ◌==◌, Bool, true, false, ◌&&◌, ◌||◌, not, List, [], ◌∷◌, ◌++◌, length, map, zip, drop, replicate, codes, Option, None, Some, Result, Ok, Err, ℤ, pos, negsuc, nat_le, unsigned_abs, bytes_eq, is_none, if◌then◌else◌}
 use Rattle.std.specs.List.{list_all, list_any}
 use Rattle.location_terms.specs.declared.status.SiteStatus.{SiteStatus}
 use Rattle.location_terms.specs.declared.claim.Claim.{Claim}
 use Rattle.location_terms.specs.declared.claim.Claim.TheVariants.{Optimal, Infeasible, Bracket}
+use Rattle.location_terms.specs.declared.form.LeafForm.TheVariants.{Prices, Whole}
 use Rattle.location_terms.specs.declared.limits.TheConstants.{MAX_COST, MAX_SITES, MAX_CUSTOMERS, MAX_SCALE, MAX_VALUE, MAX_MULTIPLIER}
 use Rattle.location_terms.specs.Instance.{Instance, site_ids, customer_ids}
 use Rattle.location_terms.specs.Plan.{Plan}
 use Rattle.location_terms.specs.Box.{Path, must_open, must_close}
 use Rattle.location_terms.specs.Bound.{Duals}
+use Rattle.location_terms.specs.Knapsack.{has_small_knapsacks}
 use Rattle.location_terms.specs.declared.split.Split.{Split}
 use Rattle.location_terms.specs.declared.split.Split.TheVariants.{Site, Lane}
 use Rattle.location_terms.specs.Split.{first_step}
@@ -253,7 +255,7 @@ price_in [] s = 0
 price_in (p ∷ ps) s = if is_same p.0 s then unsigned_abs p.1 else price_in ps s
 
 abbrev pub duals_from : Instance → ℕ → ℤ → List ℤ → List Price → Duals
-duals_from I q nu v ps = record { q = q; nu = nu; v = v; u = map (price_in ps) (site_ids I) }
+duals_from I q nu v ps = record { form = Prices; q = q; nu = nu; v = v; u = map (price_in ps) (site_ids I) }
 
 -- the prices of sites' capacities by the ids of the sites, which rise; no price is 0
 abbrev pub prices_said : Instance → Claim → Path → ℕ → ℤ → List ℤ → List Price → Said
@@ -265,6 +267,21 @@ prices_said I claim path q nu v ps =
 
 abbrev pub read_prices : Instance → Claim → Path → ℕ → ℤ → List ℤ → List ℕ → Said
 read_prices I claim path q nu v line = read_shape (row (codes "u") even_count) line (λ zs. prices_said I claim path q nu v (pairs_of zs))
+
+-- duals without prices; their form is whole
+abbrev pub whole_duals : Instance → ℕ → ℤ → List ℤ → Duals
+whole_duals I q nu v = record { form = Whole; q = q; nu = nu; v = v; u = replicate (length I.sites) 0 }
+
+-- a leaf of whole knapsacks, which have to be small
+abbrev pub whole_said : Instance → Claim → Path → ℕ → ℤ → List ℤ → Said
+whole_said I claim path q nu v = unless (has_small_knapsacks I) OutOfRange (then_due (behind_leaf claim path) (LeafShown claim path (whole_duals I q nu v)))
+
+abbrev pub whole_shape : Shape
+whole_shape = row (codes "whole") (just 0)
+
+-- the third line of a leaf: the word `whole`, or else prices. The two shapes begin with different words
+abbrev pub read_third : Instance → Claim → Path → ℕ → ℤ → List ℤ → List ℕ → Said
+read_third I claim path q nu v line = read_or whole_shape line (λ zs. whole_said I claim path q nu v) (read_prices I claim path q nu v line)
 
 -- the last line
 abbrev pub read_end : Claim → List ℕ → Said
@@ -281,6 +298,6 @@ read_line I (OpenDue claim) line = read_open I claim line
 read_line I (ServeDue claim sites) line = read_serve I claim sites line
 read_line I (NodeDue claim path) line = read_node I claim path line
 read_line I (ValuesDue claim path q nu) line = read_values I claim path q nu line
-read_line I (PricesDue claim path q nu v) line = read_prices I claim path q nu v line
+read_line I (PricesDue claim path q nu v) line = read_third I claim path q nu v line
 read_line I (EndDue claim) line = read_end claim line
 read_line I (NothingDue claim) line = Err Trailing

@@ -2,7 +2,7 @@
 use Rattle.std.specs.Prelude.{◌≡◌, Result, Ok, Err}
 use Rattle.location_terms.specs.Instance.{Instance, site_ids, customer_ids}
 use Rattle.location_terms.specs.Split.{IsSplitAmong}
-use Rattle.location_terms.specs.Fit.{DualsFit}
+use Rattle.location_terms.specs.Leaf.{LeafFits}
 use Rattle.certificate_lines.specs.declared.line.Due.{Due as CodeDue}
 use Rattle.certificate_lines.specs.declared.line.Due.TheVariants as due
 use Rattle.certificate_lines.specs.declared.line.Shown.{Shown as CodeShown}
@@ -34,10 +34,10 @@ shown_of (shown.Plan claim plan) = PlanShown claim plan
 shown_of (shown.Split split) = SplitShown split
 shown_of (shown.Leaf claim path duals) = LeafShown claim path duals
 
--- the duals of a leaf that is shown fit, and a split is one of the instance
+-- the duals of a leaf that is shown suit their form, and a split is one of the instance
 abbrev pub IsSound : Instance → Shown → Type 0
 IsSound I (SplitShown split) = IsSplitAmong (site_ids I) (customer_ids I) split
-IsSound I (LeafShown claim path duals) = DualsFit I duals
+IsSound I (LeafShown claim path duals) = LeafFits I duals
 IsSound I shown = Unit {0}
 
 -- a line is not read for what it says, or for want of memory

@@ -5,6 +5,8 @@ use Rattle.location_terms.specs.declared.status.SiteStatus.{SiteStatus}
 use Rattle.location_terms.specs.declared.status.SiteStatus.TheVariants.{Free, MustOpen, MustClose}
 use Rattle.location_terms.specs.declared.claim.Claim.{Claim}
 use Rattle.location_terms.specs.declared.claim.Claim.TheVariants.{Optimal, Infeasible, Bracket}
+use Rattle.location_terms.specs.declared.form.LeafForm.{LeafForm}
+use Rattle.location_terms.specs.declared.form.LeafForm.TheVariants.{Prices, Whole}
 use Rattle.location_terms.specs.declared.split.Split.{Split}
 use Rattle.location_terms.specs.declared.split.Split.TheVariants.{Site, Lane}
 use Rattle.location_terms.specs.Instance.{Instance}
@@ -73,9 +75,14 @@ priced (s ∷ sites) [] = []
 priced (s ∷ sites) (zero ∷ prices) = priced sites prices
 priced (s ∷ sites) (suc n ∷ prices) = s ∷ suc n ∷ priced sites prices
 
--- the scale and the price on the number of sites, the duals of the customers, and the prices of the capacities
+-- the prices of the capacities, or the word `whole` alone
+abbrev pub third_line : LeafForm → List ℕ → Duals → List ℕ
+third_line Prices sites d = counts_line (codes "u") (priced sites d.u)
+third_line Whole sites d = codes "whole"
+
+-- the scale and the price on the number of sites, the duals of the customers, and a third line by the form
 abbrev pub leaf_lines : List ℕ → Duals → List (List ℕ)
-leaf_lines sites d = spaced (codes "leaf" ∷ number_text (pos d.q) ∷ number_text d.nu ∷ []) ∷ spaced (codes "v" ∷ map number_text d.v) ∷ counts_line (codes "u") (priced sites d.u) ∷ []
+leaf_lines sites d = spaced (codes "leaf" ∷ number_text (pos d.q) ∷ number_text d.nu ∷ []) ∷ spaced (codes "v" ∷ map number_text d.v) ∷ third_line d.form sites d ∷ []
 
 -- the site, or the site and the customer of the lane
 abbrev pub split_line : Split → List ℕ

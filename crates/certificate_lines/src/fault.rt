@@ -1,4 +1,8 @@
+ghost use Rattle.std.specs.Prelude.{◌≡◌};
+ghost use Rattle.certificate_lines.specs.declared.fault.CertFault.TheVariants.{NoMemory as OutOfMemory};
+
 use crate::CertKind;
+use instance_store::NoMemory;
 use thiserror::Error;
 
 /// Why a certificate is not read: the first fault of its text, or what kept it from being read.
@@ -16,4 +20,12 @@ pub enum CertFault {
     /// Memory ran out.
     #[error("out of memory")]
     NoMemory,
+}
+
+impl From<NoMemory> for CertFault {
+    ghost from_gives = { λ _ fault. fault ≡ OutOfMemory };
+
+    fn from(_e: NoMemory) -> CertFault {
+        CertFault::NoMemory
+    }
 }

@@ -16,7 +16,8 @@ pub enum CertKind {
     /// The words are due, but not in the one spelling of the text.
     #[error("the line is not spelled in the one way")]
     NotCanonical,
-    /// A number is outside its limits, or a site without a capacity has a price of it.
+    /// A number is outside its limits, a site without a capacity has a price of it, or whole knapsacks
+    /// aren't small.
     #[error("a number is outside its limits")]
     OutOfRange,
     /// The numbers of sites and customers are not those of the instance.

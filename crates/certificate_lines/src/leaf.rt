@@ -1,4 +1,5 @@
-//! The lines of a leaf behind its first: the duals of the customers, and the prices of the capacities.
+//! The lines of a leaf behind its first: the duals of the customers, and then the prices of the capacities
+//! or the word `whole`.
 
 ghost use Rattle.std.specs.Prelude.{◌≡◌, ℕ, ℤ, List, true, map, codes, is_some, IsNone, IfOk};
 ghost use Rattle.std.specs.List.{list_all};
@@ -10,7 +11,7 @@ ghost use Rattle.number_words.specs.Line.{words_of_line};
 ghost use Rattle.number_words.specs.Number.{clamped, is_number, is_rising};
 ghost use Rattle.certificate_lines.specs.Due.{LeafShown, behind_leaf};
 ghost use Rattle.certificate_lines.specs.Head.{numbers, plain_in, unless_found};
-ghost use Rattle.certificate_lines.specs.Lines.{behind_first, is_of_size, is_among, is_in_range, then_due, pairs_of, price_in, duals_from, values_said, read_values, read_prices};
+ghost use Rattle.certificate_lines.specs.Lines.{behind_first, is_of_size, is_among, is_in_range, then_due, pairs_of, price_in, duals_from, values_said, read_values, read_prices, whole_said, whole_shape, read_shape, read_third};
 ghost use Rattle.certificate_lines.specs.Model.{Answers, AnswersDue, due_of};
 ghost use Rattle.certificate_lines.specs.Shape.{Numbers, just, row};
 
@@ -20,6 +21,7 @@ use crate::row_checks::{fault_of, place_in, prices_checked};
 use crate::{CertKind, Due, LeafHead, LineFault, Shown};
 use branch_tree::{Duals, Path, pass_leaf};
 use instance_store::{Instance, NoMemory};
+use leaf_bounds::has_small_knapsacks;
 use location_terms::{Claim, MAX_VALUE};
 use number_words::{LineWords, number};
 use std::alloc::Global;
@@ -93,8 +95,44 @@ fn are_small(values: &[i128]) -> bool
     values.iter().all(|value| value.unsigned_abs() <= MAX_VALUE)
 }
 
-/// Reads the prices of the capacities, each behind the id of its site, which end a leaf.
-pub(crate) fn read_prices(
+/// Reads the third line of a leaf, which ends it: the word `whole`, or else prices of the capacities.
+pub(crate) fn read_third(
+    alloc: Global,
+    inst: &Instance,
+    head: LeafHead,
+    values: Vec<i128>,
+    line: &[u8],
+) -> Result<(Due, Shown), LineFault>
+    ensures { Answers result (read_third inst.now head.claim head.path head.q head.nu values.items line.now) }
+{
+    match LineWords::new(line).next() {
+        Some(name) if name == b"whole".as_slice() => read_whole(alloc, inst, head, values, line),
+        _ => read_prices(alloc, inst, head, values, line),
+    }
+}
+
+// The word `whole` alone, where the knapsacks are small.
+fn read_whole(
+    alloc: Global,
+    inst: &Instance,
+    head: LeafHead,
+    values: Vec<i128>,
+    line: &[u8],
+) -> Result<(Due, Shown), LineFault>
+    ensures { Answers result (read_shape whole_shape line.now (λ zs. whole_said inst.now head.claim head.path head.q head.nu values.items)) }
+{
+    if let Some(kind) = row_fault(line, b"whole", Count::Just(0)) {
+        return Err(LineFault::Line(kind));
+    }
+    if !has_small_knapsacks(inst) {
+        return Err(LineFault::Line(CertKind::OutOfRange));
+    }
+    let duals = Duals::whole(alloc, inst, head.q, head.nu, values)?;
+    leaf_shown(head.claim, head.path, duals)
+}
+
+// The prices of the capacities, each behind the id of its site.
+fn read_prices(
     alloc: Global,
     inst: &Instance,
     head: LeafHead,
@@ -107,9 +145,16 @@ pub(crate) fn read_prices(
         return Err(LineFault::Line(kind));
     }
     let duals = Duals::from_lists(head.q, head.nu, values, price_list(alloc, inst, line)?);
-    let leaf = head.path.copied()?;
-    let next = behind_leaf(head.claim, head.path)?;
-    Ok((next, Shown::Leaf(head.claim, leaf, duals)))
+    leaf_shown(head.claim, head.path, duals)
+}
+
+// A leaf at this path, behind which the next node is due.
+fn leaf_shown(claim: Claim, path: Path, duals: Duals) -> Result<(Due, Shown), LineFault>
+    ensures { Answers result (then_due (behind_leaf claim path) (LeafShown claim path duals)) }
+{
+    let leaf = path.copied()?;
+    let next = behind_leaf(claim, path)?;
+    Ok((next, Shown::Leaf(claim, leaf, duals)))
 }
 
 // The fault of a line that is to be of ids of sites and prices, two by two.

@@ -8,7 +8,7 @@ ghost use Rattle.certificate_lines.specs.Lines.{Said, read_line};
 use crate::CertKind;
 use crate::claim_line::read_claim;
 use crate::head::{read_end, read_header, read_must_closed, read_must_open, read_sizes};
-use crate::leaf::{read_prices, read_values};
+use crate::leaf::{read_third, read_values};
 use crate::node::read_node;
 use crate::plan_lines::{read_open, read_serve};
 use branch_tree::Path;
@@ -40,7 +40,7 @@ pub enum Due {
     Node(Claim, Path),
     /// The duals of the customers, behind a leaf's scale and its price on the number of sites.
     Values(LeafHead),
-    /// The prices of the capacities, behind the duals of the customers.
+    /// The prices of the capacities or the word `whole`, behind the duals of the customers.
     Prices(LeafHead, Vec<i128>),
     /// The last line.
     End(Claim),
@@ -69,7 +69,7 @@ pub enum Shown {
     Plan(Claim, Plan),
     /// A split on a site of the instance, or on a lane from one to a customer of the instance.
     Split(Split),
-    /// A leaf at a path, with its duals, which fit.
+    /// A leaf at a path, with its duals, which fit and suit their form.
     Leaf(Claim, Path, Duals),
 }
 
@@ -134,7 +134,7 @@ fn read_due(
         Due::Serve(claim, sites) => read_serve(alloc, inst, claim, sites, line),
         Due::Node(claim, path) => read_node(inst, claim, path, line),
         Due::Values(head) => showing_nothing(read_values(alloc, inst, head, line)),
-        Due::Prices(head, values) => read_prices(alloc, inst, head, values, line),
+        Due::Prices(head, values) => read_third(alloc, inst, head, values, line),
         Due::End(claim) => showing_nothing(read_end(claim, line)),
         Due::Nothing(_) => Err(LineFault::Line(CertKind::Trailing)),
     }

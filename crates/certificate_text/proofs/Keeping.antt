@@ -57,7 +57,8 @@ fits_on I nodes NothingShown sites customers sound = tt
 fits_on I nodes (PlanShown claim P) sites customers sound = tt
 fits_on I nodes (SplitShown split) sites customers sound = subst (λ ss. IsSplitAmong ss nodes.customers split) (sym sites) (subst (λ cs. IsSplitAmong (site_ids I) cs split) (sym customers) sound)
 fits_on I nodes (LeafShown claim path d) sites customers sound =
-    (sound.of_instance.sites ∙ sym (length-site_ids I) ∙ ap length (sym sites), sound.of_instance.customers ∙ sym (length-customer_ids I) ∙ ap length (sym customers), sound.in_limits)
+    let numbers = sound.numbers in
+    (numbers.of_instance.sites ∙ sym (length-site_ids I) ∙ ap length (sym sites), numbers.of_instance.customers ∙ sym (length-customer_ids I) ∙ ap length (sym customers), numbers.in_limits, sound.prices)
 
 pub shown_fits : (I : Instance) (kept : Kept) (seen : List Shown) (shown : Shown) → kept ≡ kept_all (nothing_kept I) seen → IsSound I shown → FitsOn kept.nodes shown
 shown_fits I kept seen shown is sound = let grown = grows I kept seen is in fits_on I kept.nodes shown grown.sites grown.customers sound

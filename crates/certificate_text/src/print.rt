@@ -3,13 +3,13 @@ ghost use Rattle.std.specs.Prelude.{◌≡◌, ◌++◌, ◌∷◌, [], OnOk, co
 ghost use Rattle.std.specs.Option.{option_copied};
 ghost use Rattle.number_words.specs.Line.{spaced};
 ghost use Rattle.number_words.specs.Number.{number_text};
-ghost use Rattle.certificate_lines.specs.Text.{is_status, ids_where, counts_line, header_words, sizes_line, status_lines, claim_line, plan_lines, leaf_lines, split_line, priced, text_of_lines};
+ghost use Rattle.certificate_lines.specs.Text.{is_status, ids_where, counts_line, header_words, sizes_line, status_lines, claim_line, plan_lines, leaf_lines, third_line, split_line, priced, text_of_lines};
 ghost use Rattle.certificate_text.specs.Written.{counted, scale_line, split_lines};
 
 use branch_tree::{Duals, NodeKind};
 use certificate_lines::{is_all_free, is_status, version};
 use instance_store::Instance;
-use location_terms::{Claim, SiteId, SiteStatus, Split};
+use location_terms::{Claim, LeafForm, SiteId, SiteStatus, Split};
 use number_words::{push_count, push_number};
 use plan_meaning::Plan;
 use std::alloc::AllocError;
@@ -135,7 +135,7 @@ fn push_split_line(text: &mut Vec<u8>, split: Split) -> Result<(), AllocError>
     }
 }
 
-/// A leaf, whose prices of capacities are those of these sites.
+/// A leaf, whose prices of capacities, if it has any, are those of these sites.
 pub(crate) fn push_leaf(
     text: &mut Vec<u8>,
     sites: &[SiteId],
@@ -145,7 +145,7 @@ pub(crate) fn push_leaf(
 {
     push_scale(text, duals)?;
     push_values(text, duals.values())?;
-    push_prices(text, sites, duals.prices())
+    push_third(text, sites, duals)
 }
 
 // The scale, and the price on the number of sites.
@@ -167,6 +167,16 @@ fn push_values(text: &mut Vec<u8>, values: &[i128]) -> Result<(), AllocError>
         add_number(text, *value)?;
     }
     text.extend_from_slice(b"\n")
+}
+
+// The prices of capacities, or the word `whole`.
+fn push_third(text: &mut Vec<u8>, sites: &[SiteId], duals: &Duals) -> Result<(), AllocError>
+    ensures { OnOk result (text.new.items ≡ text.old.items ++ third_line duals.now.form sites.now duals.now ++ 10 ∷ []) }
+{
+    match duals.form() {
+        LeafForm::Prices => push_prices(text, sites, duals.prices()),
+        LeafForm::Whole => text.extend_from_slice(b"whole\n"),
+    }
 }
 
 // The prices of capacities that aren't 0, each behind its site.

@@ -12,7 +12,7 @@ use std::alloc::Global;
 use std::test::Fail;
 
 // A certificate of two sites with capacities and two customers: a split on a site, whose first child is
-// split on a lane.
+// split on a lane, and of whose leaves the first takes whole knapsacks.
 const TEXT: &str = "dualoc-certificate 1\n\
     sites 2 customers 2\n\
     claim bracket 1.500000 11.000000\n\
@@ -22,7 +22,7 @@ const TEXT: &str = "dualoc-certificate 1\n\
     lane 2 1\n\
     leaf 1 0\n\
     v -2 5\n\
-    u\n\
+    whole\n\
     leaf 0 -5\n\
     v 0 0\n\
     u 2 7\n\
@@ -119,10 +119,10 @@ fn tells_what_fails(rt: HostRuntime) -> Result<(), Fail> {
         kind: CertKind::Ended,
         line: 17,
     };
-    assert!(rt; reads(alloc, &inst, text, 0, 184, None)?);
-    assert!(rt; reads(alloc, &inst, text, 0, 183, Some(CertFault::TooLong))?);
-    assert!(rt; reads(alloc, &inst, text, 1, 184, Some(CertFault::ReadFailed))?);
-    assert!(rt; reads(alloc, &inst, cut, 0, 184, Some(ended))?);
+    assert!(rt; reads(alloc, &inst, text, 0, 188, None)?);
+    assert!(rt; reads(alloc, &inst, text, 0, 187, Some(CertFault::TooLong))?);
+    assert!(rt; reads(alloc, &inst, text, 1, 188, Some(CertFault::ReadFailed))?);
+    assert!(rt; reads(alloc, &inst, cut, 0, 188, Some(ended))?);
     assert!(rt; leaves_a_front(alloc, 1)?);
     assert!(rt; leaves_a_front(alloc, 9)?);
     Ok(())

@@ -18,7 +18,7 @@ returns-in_err-claim-clause-answer g c = λ limit start.
 
 pub returns-in-Some-clause-answer : goal.returns-in-Some-clause-answer
 returns-in-Some-clause-answer g c = λ limit start.
-    answers_no _ _ limit c.args.inst.now c.loop-bounds.reader c.next.new.self (c.loop-bounds.invariant.stood limit start) c.in-Line.line c.in-Line.shown (Ok c.in-Some.no) (rw (c.in-Line.is, c.loop-bounds.invariant.unchanged) at c.in_ok-claim.ensures.step) (rw c.in-Line.is at c.in_ok-claim.ensures.sound).0 c.in-Some.ensures.exact
+    answers_no _ _ limit c.args.inst.now c.loop-bounds.reader c.next.new.self (c.loop-bounds.invariant.stood limit start) c.in-Line.line c.in-Line.shown (Ok c.in-Some.no) (rw (c.in-Line.is, c.loop-bounds.invariant.unchanged) at c.in_ok-claim.ensures.step) (rw c.in-Line.is at c.in_ok-claim.ensures.sound).0 (rw c.in-Some.is at c.in_ok-no-in-Line.ensures.exact)
 
 pub loop-bounds-init : goal.loop-bounds-init
 loop-bounds-init g c = record {
@@ -31,7 +31,7 @@ loop-bounds-init g c = record {
 
 pub loop-bounds-preserved : goal.loop-bounds-preserved
 loop-bounds-preserved g c = record {
-  stood = λ limit start. stood_more _ _ limit c.args.inst.now c.loop-bounds.reader c.next.new.self (c.loop-bounds.invariant.stood limit start) c.in-Line.line c.in-Line.shown (rw (c.in-Line.is, c.loop-bounds.invariant.unchanged) at c.in_ok-claim.ensures.step) c.in_default.ensures.exact;
+  stood = λ limit start. stood_more _ _ limit c.args.inst.now c.loop-bounds.reader c.next.new.self (c.loop-bounds.invariant.stood limit start) c.in-Line.line c.in-Line.shown (rw (c.in-Line.is, c.loop-bounds.invariant.unchanged) at c.in_ok-claim.ensures.step) (rw c.in_default.is at c.in_ok-no-in-Line.ensures.exact);
   bounds = c.refusal.ensures.kept ∙ c.loop-bounds.invariant.bounds;
   unchanged = c.in_ok-claim.ensures.unchanged ∙ c.loop-bounds.invariant.unchanged;
   reads = λ name. omega (arith, c.in_ok-claim.ensures.reads name, c.loop-bounds.invariant.reads name);
