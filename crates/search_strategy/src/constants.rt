@@ -59,6 +59,29 @@ pub(crate) const CLOSING_STEPS: u32 = 100;
 
 pub(crate) const CLOSING_SWEEPS: u32 = 50;
 
+// Leaves of a tree that was carried over edits.
+
+/// From which open leaf on steps in the box of the instance are worth while, and how many rounds of them.
+pub(crate) const LEAVES_BEFORE: u32 = 4;
+
+pub(crate) const ROOT_ROUNDS: u32 = 3;
+
+/// More rounds go on while they take off so much of what is left.
+pub(crate) const ROOT_GAIN: f64 = 0.05;
+
+/// How often steps in a leaf go on, while they take off so much of what is left.
+pub(crate) const LEAF_ROUNDS: u32 = 4;
+
+pub(crate) const LEAF_GAIN: f64 = 0.25;
+
+/// The steps of a round in the box of the instance under capacities, and of how many rounds.
+pub(crate) const PRICE_REGROWN_ROUNDS: u32 = 5;
+
+pub(crate) const PRICE_REGROWN_STEPS: u32 = 20;
+
+/// Around which sites plans are sought behind such a round.
+pub(crate) const PRICE_HINTS: [Hint; 2] = [Hint::Taken, Hint::Shared(0.5)];
+
 // With capacities.
 
 /// The scale of leaves where some site has a capacity.
@@ -76,6 +99,59 @@ pub(crate) const PRICE_NODE_STEPS: u32 = 20;
 pub(crate) const FIRST_SEARCH: u32 = 2000;
 
 pub(crate) const NEXT_SEARCH: u32 = 4;
+
+// Whole knapsacks.
+
+/// When they are taken.
+#[derive(Clone, Copy)]
+pub(crate) struct Rules {
+    /// From so many sites on.
+    pub(crate) least_sites: usize,
+    /// After the strategy was asked in so many boxes.
+    pub(crate) first_boxes: u32,
+    /// Where steps with them leave at most such a part of what is left without them. What the best plan costs more than
+    /// an optimal one counts with both.
+    pub(crate) most_left: f64,
+}
+
+/// Where they pay.
+pub(crate) const WHERE_THEY_PAY: Rules = Rules {
+    least_sites: 13,
+    first_boxes: 25,
+    most_left: 0.715,
+};
+
+/// Everywhere, and from the first box on.
+pub(crate) const EVERYWHERE: Rules = Rules {
+    least_sites: 0,
+    first_boxes: 0,
+    most_left: 1.0,
+};
+
+/// In how many boxes of a carried tree prices are to fail before, where whole knapsacks paid in the former search.
+pub(crate) const FEW_BOXES: u32 = 2;
+
+/// Turned steps in the box of the instance: the first ones, and those behind them, which are taken where the first ones
+/// leave at most such a part of what prices leave.
+pub(crate) const WHOLE_FIRST_CLIMBS: u32 = 100;
+
+pub(crate) const FIRST_LEFT: f64 = 0.9;
+
+pub(crate) const WHOLE_ROOT_CLIMBS: u32 = 200;
+
+/// Smoothed steps in each box, and how much the first one of a box counts among those before.
+pub(crate) const WHOLE_STEPS: u32 = 60;
+
+pub(crate) const WHOLE_WEIGHT: f64 = 0.3;
+
+/// At which shares sites are open where the first plans are sought.
+pub(crate) const SEATED_SHARES: [f64; 3] = [0.5, 0.3, 0.7];
+
+/// In one of so many boxes a plan is sought.
+pub(crate) const WHOLE_PLANS: u32 = 4;
+
+/// After so many boxes without free sites, one after the other, prices go on.
+pub(crate) const WHOLE_SETTLED: u32 = 300;
 
 // Plans.
 

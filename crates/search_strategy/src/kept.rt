@@ -18,6 +18,8 @@ pub struct Kept {
     pub step_scale: u32,
     /// Whether the steps were smoothed, so that slopes and shares mean something.
     pub is_smooth: bool,
+    /// Whether whole knapsacks paid.
+    pub is_whole: bool,
     pub customers: Vec<KeptCustomer>,
     pub sites: Vec<KeptSite>,
 }
@@ -52,6 +54,8 @@ pub(crate) struct FirstBox {
     pub(crate) slopes: Vec<f64>,
     pub(crate) shares: Vec<f64>,
     pub(crate) is_smooth: bool,
+    /// Whether whole knapsacks paid.
+    pub(crate) is_whole: bool,
 }
 
 impl FirstBox {
@@ -64,6 +68,7 @@ impl FirstBox {
             slopes: vec![in alloc; 0.0; inst.custs()]?,
             shares: vec![in alloc; 0.0; inst.sites()]?,
             is_smooth: false,
+            is_whole: false,
         })
     }
 
@@ -86,7 +91,13 @@ impl FirstBox {
             slopes,
             shares,
             is_smooth: kept.is_smooth,
+            is_whole: kept.is_whole,
         })
+    }
+
+    /// The duals of the leaf once more. It fails only where memory runs out.
+    pub(crate) fn former_duals(&self) -> Result<Duals, NoMemory> {
+        self.duals.copied()
     }
 
     /// Takes over the duals of the leaf.
@@ -139,6 +150,7 @@ impl FirstBox {
             count_price: self.duals.nu(),
             step_scale: self.step_scale,
             is_smooth: self.is_smooth,
+            is_whole: self.is_whole,
             customers,
             sites,
         })
@@ -258,8 +270,8 @@ fn fill_unknown(duals: &Duals, scale: u32, stepped: &mut [i128])
     }
 }
 
-// The number at another scale, about.
-fn rescaled(value: i128, from: u32, to: u32) -> i128 {
+/// The number at another scale, about.
+pub(crate) fn rescaled(value: i128, from: u32, to: u32) -> i128 {
     if from == 0 {
         return 0;
     }

@@ -3,15 +3,21 @@
 //! is proved that it answers, and what its lengths are. Its numbers stand in `constants`.
 #![tactic(auto)]
 
+mod beginning;
 mod constants;
 mod course;
+mod full;
 mod kept;
+mod knapsacks;
+mod leaves;
 mod plans;
 mod prices;
 mod pricing;
+mod regrowing;
 mod splitting;
 mod stepping;
 mod strategy;
+mod trail;
 mod tried;
 mod widening;
 

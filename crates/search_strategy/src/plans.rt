@@ -1,9 +1,12 @@
 //! Plans around sets of sites that steps and duals propose.
 ghost use Rattle.std.specs.Prelude.{◌≡◌, ◌<◌, length};
+ghost use Rattle.lane_order.specs.Order.{IsOrderOf};
+ghost use Rattle.plan_search.specs.InBox.{IsPathOf};
 ghost use Rattle.strategy_port.specs.Scene.{IsScene};
 
 use crate::tried::Tried;
 use dual_steps::Progress;
+use dual_value::{Path, PreparedBox};
 use instance_store::{Instance, NoMemory};
 use plan_meaning::Plan;
 use plan_search::{LocalSearch, improved_set, plan_around};
@@ -52,12 +55,66 @@ impl Plans {
         ensures { length self.new.flags.items ≡ length self.old.flags.items }
     {
         flag(hint, scene.slacks, progress, &mut self.flags);
+        self.seek_flagged(scene, scene.boxed)
+    }
+
+    /// The same in the box of the instance, whichever box is at work.
+    pub(crate) fn seek_anywhere(
+        &mut self,
+        scene: &Scene<'_, '_>,
+        hint: Hint,
+        progress: &Progress,
+    ) -> Result<Move, NoMemory>
+        requires { IsScene scene.now }
+        ensures { length self.new.flags.items ≡ length self.old.flags.items }
+    {
+        flag(hint, scene.slacks, progress, &mut self.flags);
+        self.seek_whole(scene)
+    }
+
+    /// Proposes a plan near these sites, by place, or near the best plan, in the box of the instance. It fails only where
+    /// memory runs out.
+    pub(crate) fn seek_near(
+        &mut self,
+        scene: &Scene<'_, '_>,
+        near: Option<&[bool]>,
+    ) -> Result<Move, NoMemory>
+        requires { IsScene scene.now }
+        ensures { length self.new.flags.items ≡ length self.old.flags.items }
+    {
+        match near {
+            None => flag_opened(scene, &mut self.flags),
+            Some(near) => flag_taken(near, &mut self.flags),
+        }
+        self.seek_whole(scene)
+    }
+
+    // Proposes a plan around the flagged sites in the box of the instance.
+    fn seek_whole(&mut self, scene: &Scene<'_, '_>) -> Result<Move, NoMemory>
+        requires { IsScene scene.now }
+        ensures { length self.new.flags.items ≡ length self.old.flags.items }
+    {
+        let path = Path::root(scene.alloc);
+        let whole = PreparedBox::of(scene.alloc, scene.boxed.instance(), &path)?;
+        self.seek_flagged(scene, &whole)
+    }
+
+    // Proposes a plan around the flagged sites in the box.
+    fn seek_flagged(
+        &mut self,
+        scene: &Scene<'_, '_>,
+        boxed: &PreparedBox<'_>,
+    ) -> Result<Move, NoMemory>
+        requires order { IsOrderOf scene.now.order.now boxed.now.instance }
+        requires path { IsPathOf boxed.now.instance boxed.now.path }
+        ensures { length self.new.flags.items ≡ length self.old.flags.items }
+    {
         if !self.tried.is_new(&self.flags) {
             return Ok(Move::Nothing);
         }
         let plan = improved_set(
             scene.alloc,
-            scene.boxed,
+            boxed,
             scene.order,
             &mut self.local,
             &self.flags,

@@ -14,9 +14,16 @@ use instance_store::{Instance, NoMemory};
 use lane_order::LaneOrder;
 use plan_meaning::Plan;
 use set_search::{Ordered, SetSearch};
-use side_multipliers::{AT_ROOT, CapSteps, IN_NODE, LanePlace, Transport};
+use side_multipliers::{AT_ROOT, CapSteps, IN_NODE, LanePlace, Pace, Transport};
 use std::alloc::Global;
 use std::marker::Model;
+
+// How steps go on from where a former search was.
+const AGAIN: Pace = Pace {
+    factor: 0.1,
+    weight: 0.2,
+    misses: 5,
+};
 
 /// The steps of an instance some site of which has a capacity. In boxes without free sites the best prices
 /// are found without steps.
@@ -83,6 +90,17 @@ impl Prices {
         self.caps.enter(boxed, order);
         self.caps.restart(if is_first { AT_ROOT } else { IN_NODE });
         self.caps.start_from(duals.values(), duals.q());
+    }
+
+    /// Goes into the box of the instance once more, where a former search stepped.
+    pub(crate) fn enter_again(&mut self, whole: &PreparedBox<'_>, order: &LaneOrder)
+        requires order { IsOrderOf order.now whole.now.instance }
+        requires sizes { self.old ≡ sizes_of whole.now.instance }
+        ensures { self.new ≡ self.old }
+    {
+        self.is_settled = false;
+        self.caps.enter(whole, order);
+        self.caps.restart(AGAIN);
     }
 
     /// Lets the steps in a box with free sites start from these numbers, of which `scale` are a millionth, by the places
@@ -165,6 +183,22 @@ impl Prices {
     {
         self.next_search = self.next_search.saturating_mul(NEXT_SEARCH);
         let plan = self.sets.plan(at, &mut self.rooms, open, most)?;
+        Ok(plan)
+    }
+
+    /// A plan at exactly the flagged sites, by place, that costs less than `most` millionths, and none where none is
+    /// found. What the box at work had come to is lost. It fails only where memory runs out.
+    pub(crate) fn plan_at(
+        &mut self,
+        at: &Ordered<'_>,
+        open: &[bool],
+        most: f64,
+    ) -> Result<Option<Plan>, NoMemory>
+        requires { IsReady at.now self.old }
+        ensures feasible { IfOk result (λ plan. IfSome plan (IsFeasible at.now.inst.now)) }
+        ensures same { self.new ≡ self.old }
+    {
+        let plan = self.sets.seat(at, &mut self.rooms, open, most)?;
         Ok(plan)
     }
 

@@ -3,6 +3,7 @@ ghost use Rattle.std.specs.Prelude.{◌<◌, length};
 
 use crate::constants::{FEW, LEAST_DOUBT};
 use dual_value::{PreparedBox, SiteState};
+use std::num::nearest_i64_to_f64;
 use strategy_port::Scene;
 
 /// The place of the free site on which to split. Where the duals close the box of one of its two states, as far as
@@ -58,8 +59,8 @@ fn doubtful_place(boxed: &PreparedBox<'_>, shares: &[f64]) -> Option<usize> {
     if free <= FEW { None } else { best }
 }
 
-// Whether the site at this place is free, where there is one.
-fn is_free(boxed: &PreparedBox<'_>, site: usize) -> bool {
+/// Whether the site at this place is free, where there is one.
+pub(crate) fn is_free(boxed: &PreparedBox<'_>, site: usize) -> bool {
     if site >= boxed.instance().sites() {
         return false;
     }
@@ -77,4 +78,10 @@ pub(crate) fn has_free_site(boxed: &PreparedBox<'_>) -> bool {
         }
     }
     false
+}
+
+/// The bound of the leaf, in millionths.
+pub(crate) fn bound_of(scene: &Scene<'_, '_>) -> f64 {
+    let scale = i128::from(scene.duals.q().max(1));
+    nearest_i64_to_f64(i64::try_from(scene.bound / scale).unwrap_or(0))
 }

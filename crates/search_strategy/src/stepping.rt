@@ -6,11 +6,14 @@ ghost use Rattle.lane_order.specs.Order.{IsOrderOf};
 ghost use Rattle.strategy_port.specs.Scene.{IsScene};
 ghost use Rattle.search_strategy.specs.Sizes.{Suits};
 
+use crate::beginning::{Beginning, Regrowth};
 use crate::constants::{
-    CLOSING_ROUNDS, CLOSING_STEPS, CLOSING_SWEEPS, DECIDED, HINTS, NEAR, NODE_FACTOR, NODE_MISSES,
-    NODE_STEPS, RESUMED_FACTOR, ROUND_FACTOR, ROUND_MISSES, ROUND_STEPS, ROUND_SWEEPS, ROUNDS,
+    CLOSING_ROUNDS, CLOSING_STEPS, CLOSING_SWEEPS, DECIDED, HINTS, LEAF_GAIN, LEAF_ROUNDS, NEAR,
+    NODE_FACTOR, NODE_MISSES, NODE_STEPS, RESUMED_FACTOR, ROUND_FACTOR, ROUND_MISSES, ROUND_STEPS,
+    ROUND_SWEEPS, ROUNDS,
 };
 use crate::course::Course;
+use crate::full::price_in;
 use crate::kept::FirstBox;
 use crate::plans::{Hint, Plans};
 use crate::splitting::split_place;
@@ -26,7 +29,7 @@ use strategy_port::{Move, Scene, Wish};
 
 // What comes next in the box at work.
 #[derive(Clone, Copy)]
-enum Stage {
+pub(crate) enum Stage {
     // To enter the box with the steps.
     Start,
     // To seek a plan at the sites without slack.
@@ -36,20 +39,36 @@ enum Stage {
     // To seek a plan by the hint at this place, and by those behind it.
     Plans(usize),
     // To propose the duals of the steps, rounded to millionths.
-    Whole,
+    Round,
     // To propose them rounded to parts of millionths, where only a few are left.
     Fine,
     // To see what came of it.
     Review,
+    // In a leaf of a carried tree: to seek a plan near the carried one.
+    Near,
+    // To see whether steps in the box of the instance are due.
+    Due,
+    // To take a round of them.
+    Whole,
+    // To seek plans by the hint at this place behind it, and by those behind.
+    WholePlans(usize),
+    // To see what the round has left.
+    WholeReview,
+    // To propose the best of the leaf's own duals, these with the change of those of the instance's box, and the latter.
+    Own,
+    // To let steps begin from the best duals.
+    Resume,
 }
 
 // What the steps are for.
 #[derive(Clone, Copy)]
-enum Work {
+pub(crate) enum Work {
     // Rounds of many steps in the first box of a search.
     Root,
     // A few steps in another box.
     Node,
+    // The same in a leaf of a carried tree, and again while they gain.
+    Leaf,
     // Rounds to exactly the target in such a box, which may close without a split.
     Closing,
 }
@@ -57,32 +76,37 @@ enum Work {
 /// The steps of a search, and where they stand in the box at work.
 #[derive(Drop)]
 pub(crate) struct Stepping<'a> {
-    steps: Steps<'a>,
-    plans: Plans,
-    stage: Stage,
-    work: Work,
+    pub(crate) steps: Steps<'a>,
+    pub(crate) plans: Plans,
+    pub(crate) stage: Stage,
+    pub(crate) work: Work,
     course: Course,
-    rounds: u32,
+    pub(crate) rounds: u32,
     // How much the best plan cost above the bound of the steps before the round.
-    before: f64,
-    // What is known of the first box, from a former search and from this one.
-    former: Option<FirstBox>,
-    first: FirstBox,
+    pub(crate) before: f64,
+    // What is known of the box of the instance, and whether that came from a former search.
+    pub(crate) first: FirstBox,
+    is_known: bool,
+    pub(crate) regrowth: Regrowth,
 }
 
 impl<'a> Stepping<'a> {
-    /// Before the first box, with what a former search kept. It fails only where memory runs out.
+    /// Before the first box, with what is known before. It fails only where memory runs out.
     pub(crate) fn of(
         alloc: Global,
         inst: &'a Instance,
         order: &LaneOrder,
-        former: Option<FirstBox>,
+        beginning: Beginning,
     ) -> Result<Stepping<'a>, NoMemory>
         requires { IsOrderOf order.now inst.now }
     {
         let steps = Steps::of(alloc, inst, order)?;
         let plans = Plans::of(alloc, inst)?;
-        let first = FirstBox::unknown(alloc, inst)?;
+        let Beginning {
+            regrowth,
+            first,
+            is_known,
+        } = beginning;
         Ok(Stepping {
             steps,
             plans,
@@ -91,8 +115,9 @@ impl<'a> Stepping<'a> {
             course: Course::new(),
             rounds: 0,
             before: 0.0,
-            former,
             first,
+            is_known,
+            regrowth,
         })
     }
 
@@ -108,17 +133,18 @@ impl<'a> Stepping<'a> {
         if !suits(&self.steps, &self.plans, scene) {
             return Ok(Move::Done);
         }
-        if scene.is_first {
+        if scene.is_first && !self.is_starting() && !self.regrowth.is_carried() {
             self.first.take_duals(scene.duals);
         }
         match self.stage {
-            Stage::Start => Ok(self.start(scene)),
+            Stage::Start => self.start(scene),
             Stage::Seed => self.seed(scene),
             Stage::Steps => self.take_steps(scene),
             Stage::Plans(k) => self.seek_plan(scene, k),
-            Stage::Whole => self.propose(scene),
+            Stage::Round => self.propose(scene),
             Stage::Fine => self.propose_finely(scene),
             Stage::Review => Ok(self.review(scene)),
+            _ => self.regrow(scene),
         }
     }
 
@@ -133,8 +159,24 @@ impl<'a> Stepping<'a> {
         &self.first
     }
 
-    // Enters the box, and lets the steps start from the best duals of the leaf.
-    fn start(&mut self, scene: &Scene<'_, '_>) -> Move
+    // Enters the box, and lets the steps start from the best duals of the leaf, or begins with another leaf of a
+    // carried tree.
+    fn start(&mut self, scene: &Scene<'_, '_>) -> Result<Move, NoMemory>
+        requires { Suits scene.now self.old.steps self.old.plans.flags.items }
+    {
+        if self.regrowth.begins(scene.boxed.path())? {
+            let stage = if scene.is_first {
+                Stage::Near
+            } else {
+                Stage::Due
+            };
+            self.begin_leaf(stage);
+            return Ok(Move::Nothing);
+        }
+        self.start_box(scene)
+    }
+
+    fn start_box(&mut self, scene: &Scene<'_, '_>) -> Result<Move, NoMemory>
         requires { Suits scene.now self.old.steps self.old.plans.flags.items }
     {
         self.steps.enter(scene.boxed);
@@ -144,7 +186,7 @@ impl<'a> Stepping<'a> {
         self.rounds = 0;
         if !scene.is_first {
             self.work = Work::Node;
-            return Move::Nothing;
+            return Ok(Move::Nothing);
         }
         self.stage = Stage::Seed;
         self.work = Work::Root;
@@ -154,22 +196,33 @@ impl<'a> Stepping<'a> {
     }
 
     // Lets the steps go on from where those of a former search were, if there was one, and proposes its duals.
-    fn go_on(&mut self, scene: &Scene<'_, '_>) -> Move
+    fn go_on(&mut self, scene: &Scene<'_, '_>) -> Result<Move, NoMemory>
         requires { Suits scene.now self.old.steps self.old.plans.flags.items }
     {
-        let Some(former) = self.former.take() else {
-            return Move::Nothing;
-        };
-        let mut former = former;
-        former.fill(scene.duals);
-        self.steps
-            .start_from(scene.order, &former.stepped, former.step_scale);
-        if former.is_smooth {
-            self.steps
-                .resume(&former.slopes, &former.shares, RESUMED_FACTOR);
+        if !self.is_known {
+            return Ok(Move::Nothing);
+        }
+        let duals = self.first.former_duals()?;
+        self.resume_first(scene);
+        if self.first.is_smooth {
             self.course = Course::resumed();
         }
-        Move::Duals(former.duals)
+        Ok(Move::Duals(duals))
+    }
+
+    // Lets the steps go on from where those of a former search were in the box of the instance.
+    pub(crate) fn resume_first(&mut self, scene: &Scene<'_, '_>)
+        requires { Suits scene.now self.old.steps self.old.plans.flags.items }
+        ensures steps { self.new.steps ≡ self.old.steps }
+        ensures plans { self.new.plans ≡ self.old.plans }
+    {
+        self.first.fill(scene.duals);
+        self.steps
+            .start_from(scene.order, &self.first.stepped, self.first.step_scale);
+        if self.first.is_smooth {
+            self.steps
+                .resume(&self.first.slopes, &self.first.shares, RESUMED_FACTOR);
+        }
     }
 
     // Seeks a plan at the sites without slack.
@@ -193,15 +246,15 @@ impl<'a> Stepping<'a> {
                 self.stage = Stage::Plans(0);
                 self.round(scene)?;
             }
-            Work::Node => {
-                self.stage = Stage::Whole;
+            Work::Node | Work::Leaf => {
+                self.stage = Stage::Round;
                 self.node_steps(scene);
             }
             Work::Closing => {
                 if self.rounds >= CLOSING_ROUNDS {
                     return Ok(Move::Done);
                 }
-                self.stage = Stage::Whole;
+                self.stage = Stage::Round;
                 close_in(&mut self.steps, scene)?;
             }
         }
@@ -258,7 +311,7 @@ impl<'a> Stepping<'a> {
         requires { Suits scene.now self.old.steps self.old.plans.flags.items }
     {
         if k >= HINTS.len() {
-            self.stage = Stage::Whole;
+            self.stage = Stage::Round;
             return Ok(Move::Nothing);
         }
         self.stage = Stage::Plans(k + 1);
@@ -271,10 +324,10 @@ impl<'a> Stepping<'a> {
     {
         self.stage = Stage::Fine;
         if !self.is_at_root() {
-            return rounded(&mut self.steps, scene, 1);
+            return rounded(&mut self.steps, scene, 1, self.regrowth.is_carried());
         }
         snap_near(&mut self.steps, scene);
-        let found = rounded(&mut self.steps, scene, 1)?;
+        let found = rounded(&mut self.steps, scene, 1, false)?;
         self.first.take_steps(self.steps.values(), 1);
         self.first.take_smoothed(&self.steps);
         Ok(found)
@@ -289,7 +342,12 @@ impl<'a> Stepping<'a> {
         if left(&self.steps, scene) > 4.0 + customers / 8.0 {
             return Ok(Move::Nothing);
         }
-        rounded(&mut self.steps, scene, MAX_SCALE)
+        rounded(
+            &mut self.steps,
+            scene,
+            MAX_SCALE,
+            self.regrowth.is_carried(),
+        )
     }
 
     // Sees what a round has left, and whether to go on.
@@ -300,14 +358,17 @@ impl<'a> Stepping<'a> {
         let left = left(&self.steps, scene);
         match self.work {
             Work::Root => self.course.advance(self.before, left, target(scene)),
-            Work::Node => {
-                if !may_close(&self.steps, scene) {
-                    return Move::Done;
+            Work::Leaf => {
+                if self.rounds < LEAF_ROUNDS && gains(self.before, left, LEAF_GAIN) {
+                    return Move::Nothing;
                 }
-                self.work = Work::Closing;
-                self.rounds = 0;
-                self.refer_to_plan(scene);
+                if !self.regrowth.is_stepped() {
+                    self.begin_leaf(Stage::Whole);
+                    return Move::Nothing;
+                }
+                return self.review_node(scene);
             }
+            Work::Node => return self.review_node(scene),
             Work::Closing => {
                 if left > 0.5 * self.before {
                     return Move::Done;
@@ -317,10 +378,27 @@ impl<'a> Stepping<'a> {
         Move::Nothing
     }
 
+    // Sees whether the box may close without a split.
+    fn review_node(&mut self, scene: &Scene<'_, '_>) -> Move
+        requires { Suits scene.now self.old.steps self.old.plans.flags.items }
+    {
+        if !may_close(&self.steps, scene) {
+            return Move::Done;
+        }
+        self.work = Work::Closing;
+        self.rounds = 0;
+        self.refer_to_plan(scene);
+        Move::Nothing
+    }
+
+    fn is_starting(&self) -> bool {
+        matches!(self.stage, Stage::Start)
+    }
+
     fn is_at_root(&self) -> bool {
         match self.work {
             Work::Root => true,
-            Work::Node | Work::Closing => false,
+            Work::Node | Work::Leaf | Work::Closing => false,
         }
     }
 }
@@ -336,14 +414,19 @@ fn suits(steps: &Steps<'_>, plans: &Plans, scene: &Scene<'_, '_>) -> bool
         && plans.flags.len() == inst.sites()
 }
 
-// What the best plan costs, in millionths: the goal of all steps. 0 where no plan is known.
-fn target(scene: &Scene<'_, '_>) -> f64 {
+/// What the best plan costs, in millionths: the goal of all steps. 0 where no plan is known.
+pub(crate) fn target(scene: &Scene<'_, '_>) -> f64 {
     nearest_u64_to_f64(scene.cost.unwrap_or(0))
 }
 
-// How much the best plan costs above the bound that the steps have come to, in millionths.
-fn left(steps: &Steps<'_>, scene: &Scene<'_, '_>) -> f64 {
+/// How much the best plan costs above the bound that the steps have come to, in millionths.
+pub(crate) fn left(steps: &Steps<'_>, scene: &Scene<'_, '_>) -> f64 {
     target(scene) - steps.progress().bound()
+}
+
+/// Whether steps took off such a part of what was left before them.
+pub(crate) fn gains(before: f64, left: f64, part: f64) -> bool {
+    left <= (1.0 - part) * before
 }
 
 // Whether so little is left that the bound may come up to the target.
@@ -387,14 +470,22 @@ fn close_in(steps: &mut Steps<'_>, scene: &Scene<'_, '_>) -> Result<(), NoMemory
     Ok(())
 }
 
-// The best duals of the steps, rounded to parts of a millionth, `scale` of them.
-fn rounded(steps: &mut Steps<'_>, scene: &Scene<'_, '_>, scale: u32) -> Result<Move, NoMemory>
+/// The best duals of the steps, rounded to parts of a millionth, `scale` of them.
+pub(crate) fn rounded(
+    steps: &mut Steps<'_>,
+    scene: &Scene<'_, '_>,
+    scale: u32,
+    is_carried: bool,
+) -> Result<Move, NoMemory>
     requires { HasLanes steps.old scene.now.order.now }
 {
     steps.round(scene.order, scale);
     let mut values = vec![in scene.alloc; 0; steps.values().len()]?;
     widen(steps.values(), &mut values);
     let prices = vec![in scene.alloc; 0; steps.progress().shares().len()]?;
-    let extra = i128::from(steps.count_price());
+    let mut extra = i128::from(steps.count_price());
+    if is_carried {
+        extra = price_in(scene.boxed, &values, extra);
+    }
     Ok(Move::Duals(Duals::from_lists(scale, extra, values, prices)))
 }

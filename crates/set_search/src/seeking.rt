@@ -90,8 +90,9 @@ impl SetSearch {
         Ok(best)
     }
 
-    // A plan with the sites of this set open that costs less than `most` millionths, where one is found.
-    fn seat(
+    /// A plan with the flagged sites open, by place, that costs less than `most` millionths, where one is found. It
+    /// fails only where memory runs out.
+    pub fn seat(
         &mut self,
         at: &Ordered<'_>,
         rooms: &mut Transport,
