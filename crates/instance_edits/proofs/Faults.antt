@@ -1,11 +1,12 @@
 -- An edit is accepted where none of its faults is there, and refused for the first one.
-use Rattle.std.proofs.Common.{◌≡◌, ◌↔◌, ℕ, ◌<◌, Bool, true, false, cond, not, List, [], ◌∷◌, length, find, Contains, Option, None, Some, IsSome, is_some, Ok, Err, get_or, refl, sym, ap, ◌∙◌}
+use Rattle.std.proofs.Common.{◌≡◌, ◌≢◌, ◌↔◌, ℕ, ◌<◌, Bool, true, false, cond, not, List, [], ◌∷◌, length, find, Contains, Option, None, Some, IsSome, is_some, Result, Ok, Err, IfErr, get_or, refl, sym, ap, subst, ◌∙◌}
 use Rattle.std.proofs.lemmas.List.Recursion.{found_at, found_nowhere}
 use Rattle.location_terms.specs.declared.status.SiteStatus.TheVariants.{Free}
 use Rattle.location_terms.specs.Instance.{Instance, Site, Customer, site_ids, customer_ids}
 use Rattle.instance_edits.specs.declared.edit.Edit.{Edit}
+use Rattle.instance_edits.specs.declared.edit.Edit.TheVariants.{SetFixed, SetLane, SetDemand, SetCap, SetCount, AddSite, AddCust, DropSite, DropCust, SetStatus}
 use Rattle.instance_edits.specs.declared.edit.EditFault.{EditFault}
-use Rattle.instance_edits.specs.declared.edit.EditFault.TheVariants.{NoSite}
+use Rattle.instance_edits.specs.declared.edit.EditFault.TheVariants.{NoSite, NoMemory}
 use Rattle.instance_edits.specs.Edits.{lacks_site, lacks_customer, faults_of, unless_refused, answer_to, changed, edited, Accepts, IsNoneOf, without_instance, allowed}
 use Rattle.instance_edits.proofs.ListEdits.{any_key, key_among}
 
@@ -31,6 +32,35 @@ first_is faults i below before is = sym (ap answer_to (found_at (find (λ fault.
 
 pub none_is : (faults : List (Bool × EditFault)) → ((k : ℕ) → k < length faults → (get_or faults k no_fault).0 ≡ false) → Ok tt ≡ answer_to (find (λ fault. fault.0) faults)
 none_is faults none = sym (ap answer_to (found_nowhere (find (λ fault. fault.0)) (λ fault. fault.0) Some None refl (λ _ _. refl) faults no_fault none))
+
+-- none of the faults is that memory ran out
+abbrev AreOthers : List (Bool × EditFault) → Type 0
+AreOthers [] = Unit {0}
+AreOthers (x ∷ xs) = (x.1 ≢ NoMemory) × AreOthers xs
+
+other_answer : (faults : List (Bool × EditFault)) → AreOthers faults → (r : Result (Unit {0}) EditFault) → r ≡ answer_to (find (λ fault. fault.0) faults) → IfErr r (λ fault. fault ≢ NoMemory)
+other_answer faults others (Ok u) e = tt
+other_answer [] others (Err fault) e = absurd cc
+other_answer (x ∷ xs) others (Err fault) e = by x.0 (other_answer xs others.1 (Err fault)) e
+  where
+    by : (b : Bool) → (Err fault ≡ answer_to (find (λ f. f.0) xs) → fault ≢ NoMemory) → Err fault ≡ answer_to (cond b (Some x) (find (λ f. f.0) xs)) → fault ≢ NoMemory
+    by true rest is = let same : x.1 ≡ fault = cc in subst (λ f. f ≢ NoMemory) same others.0
+    by false rest is = rest is
+
+are_others : (I : Instance) (e : Edit) → AreOthers (faults_of I e)
+are_others I (SetFixed s cost) = (λ e. cc, tt)
+are_others I (SetLane s c cost) = (λ e. cc, (λ e. cc, tt))
+are_others I (SetDemand c demand) = (λ e. cc, tt)
+are_others I (SetCap s cap) = (λ e. cc, tt)
+are_others I (SetCount lo hi) = (λ e. cc, tt)
+are_others I (AddSite cost cap row) = (λ e. cc, (λ e. cc, (λ e. cc, tt)))
+are_others I (AddCust demand column) = (λ e. cc, (λ e. cc, (λ e. cc, tt)))
+are_others I (DropSite s) = (λ e. cc, (λ e. cc, tt))
+are_others I (DropCust c) = (λ e. cc, (λ e. cc, tt))
+are_others I (SetStatus s status) = (λ e. cc, tt)
+
+pub never_memory : (I : Instance) (e : Edit) (r : Result (Unit {0}) EditFault) → r ≡ answer_to (find (λ fault. fault.0) (faults_of I e)) → IfErr r (λ fault. fault ≢ NoMemory)
+never_memory I e = other_answer (faults_of I e) (are_others I e)
 
 -- where there is no place of an id, the site or the customer is missing
 missing_is : (b missing : Bool) (r : Option ℕ) → is_some r ≡ not missing → (IsSome r → b ≡ true) → (b ≡ true → IsSome r) → missing ≡ not b

@@ -2,11 +2,10 @@
 use Rattle.std.proofs.Common.{◌≡◌, ℕ, zero, suc, ◌<◌, Bool, true, false, cond, not, List, [], ◌∷◌, map, length, Contains, Option, None, Some, IfSome, IsSome, is_some, slice_index, refl, sym, ap, subst, ◌∙◌, arith}
 use Rattle.std.proofs.lemmas.List.{get_or_default}
 use Rattle.std.proofs.lemmas.List.Elements.{Contains-get_or, Contains-append_right}
-use Rattle.std.proofs.lemmas.Cmp.{tied_itself}
-use Rattle.std.specs.Ordering.{eq_by_cmp, is_eq}
+use Rattle.std.specs.Ordering.{eq_by_cmp}
 use Rattle.std.specs.FinMap.{get, insert, retain_keys, get-insert, get-remove, get-retain_keys, same_map}
 use Rattle.location_terms.specs.Instance.{Lanes, pair_cmp, row_entries}
-use Rattle.location_terms.proofs.Table.{pair_cmp-total, pair_cmp-exact, tied}
+use Rattle.location_terms.proofs.Table.{pair_cmp-total, pair_cmp-exact, tied, pair_tied, pair_apart}
 use Rattle.instance_store.specs.Changes.{lanes_with, lanes_and}
 
 -- a pair that ties with another one is that
@@ -22,16 +21,6 @@ Contains-first x xs = Contains-get_or (x ∷ xs) 0 x (omega arith)
 
 Contains-later : {X : Type 0} (x : X) (xs : List X) (y : X) → Contains xs y → Contains (x ∷ xs) y
 Contains-later x xs y h = Contains-append_right (x ∷ []) xs y h
-
-pub pair_tied : (p : ℕ × ℕ) → eq_by_cmp pair_cmp p p ≡ true
-pair_tied p = ap is_eq (tied_itself pair_cmp-total p)
-
-pub pair_apart : (p q : ℕ × ℕ) → (p ≡ q → ⊥) → eq_by_cmp pair_cmp p q ≡ false
-pair_apart p q apart = by (eq_by_cmp pair_cmp p q) refl
-  where
-    by : (b : Bool) → eq_by_cmp pair_cmp p q ≡ b → b ≡ false
-    by true e = absurd (apart (same_pair p q e))
-    by false e = refl
 
 -- what is found once a lane is set
 pub get-lanes_with : (m : Lanes) (s c : ℕ) (o : Option ℕ) (q : ℕ × ℕ) → get (lanes_with m s c o) q ≡ cond (eq_by_cmp pair_cmp q (s, c)) o (get m q)

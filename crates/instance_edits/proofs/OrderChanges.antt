@@ -25,7 +25,8 @@ use Rattle.instance_edits.specs.Edits.{with_new_customer, faults_of, unless_refu
 use Rattle.instance_edits.specs.Undo.{put_back}
 use Rattle.instance_edits.proofs.Faults.{none_of}
 use Rattle.instance_edits.proofs.ListEdits.{filter_one, length-filter_one, others}
-use Rattle.instance_edits.proofs.LaneEdits.{get-lanes_with, pair_tied, pair_apart}
+use Rattle.location_terms.proofs.Table.{pair_tied, pair_apart}
+use Rattle.instance_edits.proofs.LaneEdits.{get-lanes_with}
 use Rattle.instance_edits.proofs.Restored.{no_site, no_customer, no_lane, below_next_customer}
 
 -- Lists.

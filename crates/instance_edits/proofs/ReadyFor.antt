@@ -17,7 +17,8 @@ use Rattle.instance_edits.specs.Edits.{lacks_site, lacks_customer}
 use Rattle.instance_edits.specs.Undo.{is_last, suits, put_back}
 use Rattle.instance_edits.specs.Ready.{CanLoseSite, CanLoseCustomer, IsReadyFor}
 use Rattle.instance_edits.proofs.ListEdits.{length-filter_one, others}
-use Rattle.instance_edits.proofs.LaneEdits.{get-lanes_with, pair_tied}
+use Rattle.location_terms.proofs.Table.{pair_tied}
+use Rattle.instance_edits.proofs.LaneEdits.{get-lanes_with}
 use Rattle.instance_edits.proofs.Restored.{site_place, customer_place, no_site, no_customer}
 
 isnt : (b : Bool) → not b ≡ true → b ≡ false

@@ -1,7 +1,7 @@
 //! Whether an instance accepts an edit.
-ghost use Rattle.std.specs.Prelude.{◌≡◌, ◌≤◌, ◌||◌, find, length, nat_lt};
+ghost use Rattle.std.specs.Prelude.{◌≡◌, ◌≢◌, ◌≤◌, ◌||◌, find, length, nat_lt, IfErr};
 ghost use Rattle.location_terms.specs.Instance.{IsValid};
-ghost use Rattle.instance_edits.specs.declared.edit.EditFault.TheVariants.{NoSite, NoCustomer};
+ghost use Rattle.instance_edits.specs.declared.edit.EditFault.TheVariants.{NoSite, NoCustomer, NoMemory as is_out_of_memory};
 ghost use Rattle.instance_edits.specs.Edits.{lacks_site, lacks_customer, are_too_many, are_ids_spent, faults_of, answer_to, allowed};
 
 use crate::{CustId, Edit, EditFault, Instance, SiteId};
@@ -11,6 +11,7 @@ use location_terms::{MAX_CUSTOMERS, MAX_ID, MAX_LANES, MAX_SITES};
 /// memory, and never answers `NoMemory`.
 pub fn allows(inst: &Instance, edit: &Edit) -> Result<(), EditFault>
     ensures answer { result ≡ allowed inst.now edit.now }
+    ensures memory { IfErr result (λ fault. fault ≢ is_out_of_memory) }
     ensures valid { IsValid inst.now }
 {
     let (sites, custs) = (inst.sites(), inst.custs());

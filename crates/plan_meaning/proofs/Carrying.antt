@@ -1,12 +1,12 @@
 -- What each step of carrying a plan over adds, and that what comes of it is a plan.
-use Rattle.std.proofs.Common.{◌≡◌, ℕ, ◌+◌, ◌<◌, ◌≤◌, ◌↔◌, inl, inr, ltb, Bool, true, false, cond, List, [], ◌∷◌, ◌++◌, suc, map, length, take, get_or, Option, None, Some, refl, ap, sym, subst, ◌∙◌, arith}
-use Rattle.std.specs.Prelude.{IsTrue, Contains, AllPairs, filter, filter_map, find, option_map, is_some, ◌==◌, ◌&&◌, ◌||◌, if◌then◌else◌}
+use Rattle.std.proofs.Common.{◌≡◌, ℕ, ◌+◌, ◌<◌, ◌≤◌, ◌↔◌, inl, inr, ltb, Bool, true, false, cond, List, [], ◌∷◌, ◌++◌, suc, All, map, length, take, get_or, Option, None, Some, refl, ap, sym, subst, ◌∙◌, arith}
+use Rattle.std.specs.Prelude.{IsTrue, Contains, AllPairs, filter, filter_map, find, option_map, is_some, unwrap_or, ◌==◌, ◌&&◌, ◌||◌, if◌then◌else◌}
 use Rattle.std.specs.List.{list_any, reduce, fold}
 use Rattle.std.specs.List.Sorted.{IsStrictlyIncreasing, IsPartitionedBy, IsPartitionPoint}
 use Rattle.std.proofs.lemmas.Bool.{eqb-true, ne_eqb, ltb-true, ltb-false, cases_eq, cases_order}
 use Rattle.std.proofs.lemmas.Bool.Decides.{Decides-eqb, Decides-by_or, same_from_decides}
 use Rattle.std.proofs.lemmas.List.{append-nil, length-map, get_or-map, take_more}
-use Rattle.std.proofs.lemmas.List.Elements.{filter_more, filter_map-append, Decides-contains}
+use Rattle.std.proofs.lemmas.List.Elements.{All-head, All-tail, filter_more, filter_map-append, Decides-contains}
 use Rattle.std.proofs.lemmas.List.Kept.{AllPairs-from_increasing, AllPairs-filter, IsStrictlyIncreasing-filter}
 use Rattle.std.proofs.lemmas.List.Recursion.{found_nowhere}
 use Rattle.std.proofs.lemmas.List.Sorted.{IsPartitionedBy-ltb, IsNonDecreasingBy-from_default}
@@ -17,7 +17,7 @@ use Rattle.location_terms.specs.Instance.{Instance, Site, IsValid, lane, site_id
 use Rattle.location_terms.specs.Carried.{is_listed, is_carried, carried_sites, cheapest_site, former_site, carried_site, carried_plan}
 use Rattle.location_terms.specs.Plan.{Plan, IsPlan, served}
 use Rattle.plan_meaning.specs.Plan.{plan_of}
-use Rattle.plan_meaning.specs.Carried.{nearer, nearest_with}
+use Rattle.plan_meaning.specs.Carried.{nearer_of}
 
 -- whether a site is among those of a list
 pub listed_is : (xs : List ℕ) (s : ℕ) (b : Bool) → IsTrue b ↔ Contains xs s → b ≡ is_listed xs s
@@ -33,6 +33,15 @@ free_carried P x e = rw e (open_alone (is_listed P.sites x.id))
     open_alone true = refl
     open_alone false = refl
 
+-- of two sites with a lane to the customer, that of the cheaper lane, the first where both cost as much
+abbrev nearer : Instance → ℕ → ℕ → ℕ → ℕ
+nearer I c best s = if ltb (unwrap_or (lane I s c) 0) (unwrap_or (lane I best c) 0) then s else best
+
+-- the nearest of the sites before, and one more, which counts where it has a lane to the customer
+abbrev nearest_with : Instance → ℕ → Option ℕ → ℕ → Option ℕ
+nearest_with I c None s = if is_some (lane I s c) then Some s else None
+nearest_with I c (Some best) s = if is_some (lane I s c) then Some (nearer I c best s) else Some best
+
 nearest_more : (I : Instance) (c : ℕ) (sites : List ℕ) (s : ℕ) (b : Bool) → is_some (lane I s c) ≡ b → reduce (nearer I c) (sites ++ cond b (s ∷ []) []) ≡ nearest_with I c (reduce (nearer I c) sites) s
 nearest_more I c [] s true e = rw e refl
 nearest_more I c [] s false e = rw e refl
@@ -40,10 +49,58 @@ nearest_more I c (x ∷ xs) s true e = rw e (ap Some (fold-append (nearer I c) x
 nearest_more I c (x ∷ xs) s false e = rw e (ap (λ ys. Some (fold (nearer I c) x ys)) (append-nil xs))
 
 -- the cheapest of one site more
-pub cheapest_more : (I : Instance) (c : ℕ) (sites : List ℕ) (k : ℕ) → k < length sites → cheapest_site I (take (k + 1) sites) c ≡ nearest_with I c (cheapest_site I (take k sites) c) (get_or sites k 0)
+cheapest_more : (I : Instance) (c : ℕ) (sites : List ℕ) (k : ℕ) → k < length sites → cheapest_site I (take (k + 1) sites) c ≡ nearest_with I c (cheapest_site I (take k sites) c) (get_or sites k 0)
 cheapest_more I c sites k b =
     let has : ℕ → Bool = λ s. is_some (lane I s c) in
     ap (reduce (nearer I c)) (filter_more has sites k 0 b) ∙ nearest_more I c (filter has (take k sites)) (get_or sites k 0) (has (get_or sites k 0)) refl
+
+-- a site with what its lane to the customer costs
+abbrev pub priced : Instance → ℕ → ℕ → ℕ × ℕ
+priced I c s = (s, unwrap_or (lane I s c) 0)
+
+here : (I : Instance) (c s cost : ℕ) → lane I s c ≡ Some cost → Some (s, cost) ≡ Some (priced I c s)
+here I c s cost e = sym (ap (λ o. Some (s, unwrap_or o 0)) e)
+
+nearer_is : (I : Instance) (c : ℕ) (best : Option ℕ) (s : ℕ) (o : Option ℕ) → lane I s c ≡ o → nearer_of (option_map (priced I c) best) s o ≡ option_map (priced I c) (nearest_with I c best s)
+nearer_is I c None s None e = rw e refl
+nearer_is I c None s (Some cost) e = here I c s cost e ∙ sym (ap (λ o. option_map (priced I c) (if is_some o then Some s else None)) e)
+nearer_is I c (Some best) s None e = rw e refl
+nearer_is I c (Some best) s (Some cost) e =
+    by (ltb cost (unwrap_or (lane I best c) 0)) ∙ sym (ap (λ o. option_map (priced I c) (if is_some o then Some (if ltb (unwrap_or o 0) (unwrap_or (lane I best c) 0) then s else best) else Some best)) e)
+  where
+    by : (b : Bool) → cond b (Some (s, cost)) (Some (priced I c best)) ≡ option_map (priced I c) (Some (cond b s best))
+    by true = here I c s cost e
+    by false = refl
+
+-- the cheapest of one site more, with what its lane costs
+pub cheapest_with : (I : Instance) (c : ℕ) (sites : List ℕ) (k : ℕ) → k < length sites
+    → nearer_of (option_map (priced I c) (cheapest_site I (take k sites) c)) (get_or sites k 0) (lane I (get_or sites k 0) c) ≡ option_map (priced I c) (cheapest_site I (take (k + 1) sites) c)
+cheapest_with I c sites k b = nearer_is I c (cheapest_site I (take k sites) c) (get_or sites k 0) _ refl ∙ ap (option_map (priced I c)) (sym (cheapest_more I c sites k b))
+
+pub unpriced : (I : Instance) (c : ℕ) (site : Option ℕ) → option_map (λ (x : ℕ × ℕ). x.0) (option_map (priced I c) site) ≡ site
+unpriced I c None = refl
+unpriced I c (Some s) = refl
+
+-- an id is listed where it is found, at which place it may be
+pub listed_where_found : (vs : List (ℕ × ℕ)) (s : ℕ) (o : Option (ℕ × ℕ)) → find (λ v. v.0 == s) vs ≡ o → is_listed (map (λ v. v.0) vs) s ≡ is_some o
+listed_where_found vs s o e = by vs ∙ ap is_some e
+  where
+    step : (v : ℕ × ℕ) (vs : List (ℕ × ℕ)) (t b : Bool) → b ≡ is_some (find (λ (w : ℕ × ℕ). w.0 == s) vs) → (t || b) ≡ is_some (cond t (Some v) (find (λ (w : ℕ × ℕ). w.0 == s) vs))
+    step v vs true b e = refl
+    step v vs false b e = e
+
+    by : (vs : List (ℕ × ℕ)) → is_listed (map (λ v. v.0) vs) s ≡ is_some (find (λ v. v.0 == s) vs)
+    by [] = refl
+    by (v ∷ vs) = step v vs (v.0 == s) _ (by vs)
+
+-- what is found has the id, and what all have
+pub found_is : (P : ℕ × ℕ → Type 0) (vs : List (ℕ × ℕ)) (s : ℕ) (x : ℕ × ℕ) → All P vs → find (λ v. v.0 == s) vs ≡ Some x → (x.0 ≡ s) × P x
+found_is P [] s x all e = absurd cc
+found_is P (v ∷ vs) s x all e = by (v.0 == s) refl e (found_is P vs s x (All-tail P v vs all))
+  where
+    by : (t : Bool) → (v.0 == s) ≡ t → cond t (Some v) (find (λ (w : ℕ × ℕ). w.0 == s) vs) ≡ Some x → (find (λ (w : ℕ × ℕ). w.0 == s) vs ≡ Some x → (x.0 ≡ s) × P x) → (x.0 ≡ s) × P x
+    by true is first later = let same : v ≡ x = cc in (ap (λ (w : ℕ × ℕ). w.0) (sym same) ∙ eqb-true _ _ is, subst P same (All-head P v vs all))
+    by false is first later = later first
 
 -- the former site, where it passes
 abbrev pub kept : (ℕ → Bool) → Option ℕ → Option ℕ
@@ -78,18 +135,11 @@ module _ (c : ℕ) (p q : ℕ → Bool) where
       (λ t. found_nowhere (find passes) passes Some None refl (λ _ _. refl) vs (0, 0) (above_all v vs up (eqb-true _ _ t)))
       (kept_found vs (λ i j d before b. up (suc i) (suc j) d (omega (arith, before)) (omega (arith, b))))
 
-pub kept_some : (p q : ℕ → Bool) (s : ℕ) → p s ≡ true → q s ≡ true → Some s ≡ kept (λ n. p n && q n) (Some s)
-kept_some p q s e f = rw (e, f) refl
+pub kept_some : (p q : ℕ → Bool) (s : ℕ) → (p s && q s) ≡ true → Some s ≡ kept (λ n. p n && q n) (Some s)
+kept_some p q s e = rw e refl
 
-pub kept_none_first : (p q : ℕ → Bool) (s : ℕ) → p s ≡ false → None ≡ kept (λ n. p n && q n) (Some s)
-kept_none_first p q s e = rw e refl
-
-pub kept_none_second : (p q : ℕ → Bool) (s : ℕ) → q s ≡ false → None ≡ kept (λ n. p n && q n) (Some s)
-kept_none_second p q s e = none_second (p s) (q s) s e
-  where
-    none_second : (a b : Bool) (s : ℕ) → b ≡ false → None ≡ (if a && b then Some s else None)
-    none_second true b s e = rw e refl
-    none_second false b s e = refl
+pub kept_none : (p q : ℕ → Bool) (s : ℕ) → (p s && q s) ≡ false → None ≡ kept (λ n. p n && q n) (Some s)
+kept_none p q s e = rw e refl
 
 -- the former site is the one that served the customer, where that passes
 pub former_is : (I : Instance) (P : Plan) (sites : List ℕ) (c : ℕ) (site : Option ℕ) → IsStrictlyIncreasing (served P) → site ≡ option_map (λ v. v.1) (find (λ v. v.0 == c) P.serves) → kept (λ s. is_listed sites s && is_some (lane I s c)) site ≡ former_site I P sites c
@@ -165,8 +215,12 @@ carried_rise I P sites customers = record {
   customers_rise = subst IsStrictlyIncreasing (sym (serves_ids (carried_site I P (carried_sites I P)) (customer_ids I))) (IsStrictlyIncreasing-filter _ _ customers);
 }
 
-pub carried_is_plan : (I : Instance) (P : Plan) (sites seen : List ℕ) (serves : List (ℕ × ℕ)) → IsValid I → sites ≡ carried_sites I P → seen ≡ sites → serves ≡ filter_map (λ c. option_map (λ s. (c, s)) (carried_site I P seen c)) (customer_ids I) → IsPlan (plan_of sites serves)
+-- the sites that are carried over rise
+pub sites_up : (I : Instance) (P : Plan) (sites : List ℕ) → IsValid I → sites ≡ carried_sites I P → IsStrictlyIncreasing sites
+sites_up I P sites valid e = subst IsStrictlyIncreasing (sym e) (carried_rise I P valid.sites_named.rising valid.customers_named.rising).sites_rise
+
+pub carried_is_plan : (I : Instance) (P : Plan) (sites seen : List ℕ) (serves : List (ℕ × ℕ)) → IsValid I → seen ≡ carried_sites I P → sites ≡ seen → serves ≡ filter_map (λ c. option_map (λ s. (c, s)) (carried_site I P seen c)) (customer_ids I) → IsPlan (plan_of sites serves)
 carried_is_plan I P sites seen serves valid e same f =
-    let g : serves ≡ (carried_plan I P).serves = f ∙ ap (λ (open_sites : List ℕ). filter_map (λ c. option_map (λ s. (c, s)) (carried_site I P open_sites c)) (customer_ids I)) (same ∙ e) in
-    let whole : plan_of sites serves ≡ carried_plan I P = ap (λ (open_sites : List ℕ). plan_of open_sites serves) e ∙ ap (plan_of (carried_sites I P)) g in
+    let g : serves ≡ (carried_plan I P).serves = f ∙ ap (λ (open_sites : List ℕ). filter_map (λ c. option_map (λ s. (c, s)) (carried_site I P open_sites c)) (customer_ids I)) e in
+    let whole : plan_of sites serves ≡ carried_plan I P = ap (λ (open_sites : List ℕ). plan_of open_sites serves) (same ∙ e) ∙ ap (plan_of (carried_sites I P)) g in
     subst IsPlan (sym whole) (carried_rise I P valid.sites_named.rising valid.customers_named.rising)

@@ -1,25 +1,32 @@
 //! The parts of a plan that is carried over to an instance that was edited.
-ghost use Rattle.std.specs.Prelude.{◌≡◌, ◌<◌, [], ◌∷◌, ◌++◌, length, filter_map, option_map, unwrap_or, IfOk};
+ghost use Rattle.std.specs.Prelude.{◌≡◌, ◌<◌, ◌==◌, ◌&&◌, [], ◌∷◌, ◌++◌, length, map, find, filter_map, option_map, is_some, All, IfOk};
+ghost use Rattle.std.specs.List.Sorted.{IsStrictlyIncreasing};
 ghost use Rattle.location_terms.specs.Instance.{IsValid, site_at, customer_at, customer_ids, lane};
-ghost use Rattle.location_terms.specs.Carried.{is_carried as carries, carried_sites as carried_of, former_site as former_of, cheapest_site as cheapest_of, carried_site as site_of};
-ghost use Rattle.plan_meaning.specs.Carried.{nearest_with as nearest_of};
+ghost use Rattle.location_terms.specs.Carried.{is_listed, is_carried as carries, carried_sites as carried_of, former_site as former_of, cheapest_site as cheapest_of, carried_site as site_of};
+ghost use Rattle.plan_meaning.specs.Carried.{IsAt, nearer_of};
 
 use crate::Plan;
 use instance_store::{CustId, Instance, NoMemory, SiteId, SiteStatus};
 use std::alloc::Global;
 
-/// The open sites: those of the plan that are still there and that no status closes, and those that
-/// must be open.
-pub fn carried_sites(alloc: Global, inst: &Instance, plan: &Plan) -> Result<Vec<SiteId>, NoMemory>
-    ensures { IfOk result (λ sites. sites.items ≡ carried_of inst.now plan.now) }
+/// The open sites, each with its place in the instance: those of the plan that are still there and that
+/// no status closes, and those that must be open.
+pub fn carried_places(
+    alloc: Global,
+    inst: &Instance,
+    plan: &Plan,
+) -> Result<Vec<(SiteId, usize)>, NoMemory>
+    ensures sites { IfOk result (λ opened. map (λ x. x.0) opened.items ≡ carried_of inst.now plan.now) }
+    ensures places { IfOk result (λ opened. All (IsAt inst.now) opened.items) }
+    ensures valid { IsValid inst.now }
 {
-    let mut sites = Vec::new(alloc);
+    let mut opened = Vec::new(alloc);
     for i in 0..inst.sites() {
         if is_carried(inst, plan, i) {
-            sites.push(inst.site_id(i))?;
+            opened.push((inst.site_id(i), i))?;
         }
     }
-    Ok(sites)
+    Ok(opened)
 }
 
 fn is_carried(inst: &Instance, plan: &Plan, i: usize) -> bool
@@ -33,16 +40,25 @@ fn is_carried(inst: &Instance, plan: &Plan, i: usize) -> bool
     }
 }
 
+/// The ids of the open sites.
+pub fn carried_sites(alloc: Global, opened: &[(SiteId, usize)]) -> Result<Vec<SiteId>, NoMemory>
+    ensures { IfOk result (λ sites. sites.items ≡ map (λ x. x.0) opened.now) }
+{
+    let sites = opened.iter().map(|site| site.0).collect(alloc)?;
+    Ok(sites)
+}
+
 /// Each customer of the instance with the site that serves it, without those whom no open site has a
-/// lane to.
+/// lane to. The open sites stand with their places, in the order of their ids.
 pub fn carried_serves(
     alloc: Global,
     inst: &Instance,
     plan: &Plan,
-    sites: &[SiteId],
+    opened: &[(SiteId, usize)],
 ) -> Result<Vec<(CustId, SiteId)>, NoMemory>
-    ensures valid { IsValid inst.now }
-    ensures exact { IfOk result (λ serves. serves.items ≡ filter_map (λ c. option_map (λ s. (c, s)) (site_of inst.now plan.now sites.now c)) (customer_ids inst.now)) }
+    requires places { All (IsAt inst.now) opened.now }
+    requires rising { IsStrictlyIncreasing (map (λ x. x.0) opened.now) }
+    ensures { IfOk result (λ serves. serves.items ≡ filter_map (λ c. option_map (λ s. (c, s)) (site_of inst.now plan.now (map (λ x. x.0) opened.now) c)) (customer_ids inst.now)) }
 {
     let custs = inst.custs();
     let mut serves = Vec::with_capacity(alloc, custs)?;
@@ -50,7 +66,7 @@ pub fn carried_serves(
         push_serve(
             &mut serves,
             inst.cust_id(j),
-            carried_site(inst, plan, sites, j),
+            carried_site(inst, plan, opened, j),
         )?;
     }
     Ok(serves)
@@ -70,55 +86,86 @@ fn push_serve(
 }
 
 // The site that serves the customer at place `j`: the former one, or else that of the cheapest lane.
-fn carried_site(inst: &Instance, plan: &Plan, sites: &[SiteId], j: usize) -> Option<SiteId>
+fn carried_site(
+    inst: &Instance,
+    plan: &Plan,
+    opened: &[(SiteId, usize)],
+    j: usize,
+) -> Option<SiteId>
     requires place { j < length inst.now.customers }
-    requires valid { IsValid inst.now }
-    ensures { result ≡ site_of inst.now plan.now sites.now (customer_at inst.now j).id }
+    requires places { All (IsAt inst.now) opened.now }
+    requires rising { IsStrictlyIncreasing (map (λ x. x.0) opened.now) }
+    ensures { result ≡ site_of inst.now plan.now (map (λ x. x.0) opened.now) (customer_at inst.now j).id }
 {
-    match former_site(inst, plan, sites, j) {
+    match former_site(inst, plan, opened, j) {
         Some(site) => Some(site),
-        None => cheapest_site(inst, sites, j),
+        None => cheapest_site(inst, opened, j),
     }
 }
 
-fn former_site(inst: &Instance, plan: &Plan, sites: &[SiteId], j: usize) -> Option<SiteId>
+fn former_site(inst: &Instance, plan: &Plan, opened: &[(SiteId, usize)], j: usize) -> Option<SiteId>
     requires place { j < length inst.now.customers }
-    requires valid { IsValid inst.now }
-    ensures { result ≡ former_of inst.now plan.now sites.now (customer_at inst.now j).id }
+    requires places { All (IsAt inst.now) opened.now }
+    requires rising { IsStrictlyIncreasing (map (λ x. x.0) opened.now) }
+    ensures { result ≡ former_of inst.now plan.now (map (λ x. x.0) opened.now) (customer_at inst.now j).id }
 {
     let site = plan.server(inst.cust_id(j))?;
-    if sites.contains(&site) && lane_from(inst, site, j).is_some() {
+    if is_served_from(inst, opened, site, j) {
         Some(site)
     } else {
         None
     }
 }
 
-fn cheapest_site(inst: &Instance, sites: &[SiteId], j: usize) -> Option<SiteId>
+// Whether the site is open and has a lane to the customer at place `j`.
+fn is_served_from(inst: &Instance, opened: &[(SiteId, usize)], site: SiteId, j: usize) -> bool
     requires place { j < length inst.now.customers }
-    requires valid { IsValid inst.now }
-    ensures { result ≡ cheapest_of inst.now sites.now (customer_at inst.now j).id }
+    requires places { All (IsAt inst.now) opened.now }
+    requires rising { IsStrictlyIncreasing (map (λ x. x.0) opened.now) }
+    ensures { result ≡ (is_listed (map (λ x. x.0) opened.now) site && is_some (lane inst.now site (customer_at inst.now j).id)) }
 {
-    let mut best = None;
-    for k in 0..sites.len() {
-        best = nearest_with(inst, j, best, sites[k]);
+    match open_site(opened, site) {
+        None => false,
+        Some(found) => lane_from(inst, found, j).is_some(),
     }
-    best
 }
 
-fn nearest_with(inst: &Instance, j: usize, best: Option<SiteId>, site: SiteId) -> Option<SiteId>
-    requires place { j < length inst.now.customers }
-    requires valid { IsValid inst.now }
-    ensures { result ≡ nearest_of inst.now (customer_at inst.now j).id best site }
+// The open site of this id with its place.
+fn open_site(opened: &[(SiteId, usize)], id: SiteId) -> Option<(SiteId, usize)>
+    requires rising { IsStrictlyIncreasing (map (λ x. x.0) opened.now) }
+    ensures { result ≡ find (λ x. x.0 == id) opened.now }
 {
-    let Some(cost) = lane_from(inst, site, j) else {
+    let k = opened.partition_point(|site| site.0 < id);
+    let found = *opened.get(k)?;
+    if found.0 == id { Some(found) } else { None }
+}
+
+fn cheapest_site(inst: &Instance, opened: &[(SiteId, usize)], j: usize) -> Option<SiteId>
+    requires place { j < length inst.now.customers }
+    requires places { All (IsAt inst.now) opened.now }
+    ensures { result ≡ cheapest_of inst.now (map (λ x. x.0) opened.now) (customer_at inst.now j).id }
+{
+    let mut best = None;
+    for k in 0..opened.len() {
+        let site = opened[k];
+        best = nearer_of(best, site.0, lane_from(inst, site, j));
+    }
+    best.map(|nearest| nearest.0)
+}
+
+// Of the nearest site so far and one more, each with what its lane costs in millionths, the nearer
+// one: the first where both cost as much, or where the other has no lane.
+fn nearer_of(best: Option<(SiteId, u64)>, site: SiteId, lane: Option<u64>) -> Option<(SiteId, u64)>
+    ensures { result ≡ nearer_of best site lane }
+{
+    let Some(cost) = lane else {
         return best;
     };
     match best {
-        None => Some(site),
+        None => Some((site, cost)),
         Some(former) => {
-            if cost < cost_from(inst, former, j) {
-                Some(site)
+            if cost < former.1 {
+                Some((site, cost))
             } else {
                 Some(former)
             }
@@ -126,23 +173,11 @@ fn nearest_with(inst: &Instance, j: usize, best: Option<SiteId>, site: SiteId) -
     }
 }
 
-// What the lane from the site to the customer at place `j` costs, in millionths; 0 without a lane.
-fn cost_from(inst: &Instance, site: SiteId, j: usize) -> u64
+// The lane from the open site to the customer at place `j`.
+fn lane_from(inst: &Instance, site: (SiteId, usize), j: usize) -> Option<u64>
     requires place { j < length inst.now.customers }
-    requires valid { IsValid inst.now }
-    ensures { result ≡ unwrap_or (lane inst.now site (customer_at inst.now j).id) 0 }
+    requires at { IsAt inst.now site }
+    ensures { result ≡ lane inst.now site.0 (customer_at inst.now j).id }
 {
-    lane_from(inst, site, j).unwrap_or(0)
-}
-
-// The lane from the site of this id to the customer at place `j`.
-fn lane_from(inst: &Instance, site: SiteId, j: usize) -> Option<u64>
-    requires place { j < length inst.now.customers }
-    requires valid { IsValid inst.now }
-    ensures { result ≡ lane inst.now site (customer_at inst.now j).id }
-{
-    match inst.site_at(site) {
-        None => None,
-        Some(i) => inst.lane(i, j),
-    }
+    inst.lane(site.1, j)
 }

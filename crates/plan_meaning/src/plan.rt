@@ -4,7 +4,7 @@ ghost use Rattle.location_terms.specs.Carried.{carried_plan};
 ghost use Rattle.location_terms.specs.Plan.{IsPlan};
 ghost use Rattle.plan_meaning.specs.Plan.{plan_of, serve_at};
 
-use crate::carried::{carried_serves, carried_sites};
+use crate::carried::{carried_places, carried_serves, carried_sites};
 use instance_store::{Instance, NoMemory};
 use location_terms::{CustId, SiteId};
 use std::alloc::Global;
@@ -103,8 +103,9 @@ impl Plan {
     pub fn carried(&self, alloc: Global, inst: &Instance) -> Result<Plan, NoMemory>
         ensures { IfOk result (λ P. P ≡ carried_plan inst.now self.now) }
     {
-        let sites = carried_sites(alloc, inst, self)?;
-        let serves = carried_serves(alloc, inst, self, &sites)?;
+        let opened = carried_places(alloc, inst, self)?;
+        let serves = carried_serves(alloc, inst, self, &opened)?;
+        let sites = carried_sites(alloc, &opened)?;
         Ok(Plan { sites, serves })
     }
 }
