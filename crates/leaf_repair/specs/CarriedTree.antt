@@ -1,4 +1,3 @@
--- Of calls that are yet to come: no public contract cites this page.
 -- A tree that is carried over to an instance that was edited: its duals are read by the ids on which the tree stood, and children that speak of what is gone are left out.
 -- The root leaf of zeros takes its place where the tree grew too large for sessions to keep. The rules are the suite's own.
 use Rattle.std.specs.Prelude.{◌==◌, ℕ, ◌+◌, ◌*◌, ◌/◌, Bool, ◌&&◌, List, map, zip, find, length, option_map, unwrap_or, is_some, pos, nat_lt, if◌then◌else◌}
@@ -6,6 +5,9 @@ use Rattle.location_terms.specs.Instance.{Instance, site_ids, customer_ids}
 use Rattle.location_terms.specs.declared.split.Split.{Split}
 use Rattle.location_terms.specs.declared.split.Split.TheVariants.{Site, Lane}
 use Rattle.location_terms.specs.Carried.{is_listed}
+use Rattle.location_terms.specs.declared.form.LeafForm.{LeafForm}
+use Rattle.location_terms.specs.declared.form.LeafForm.TheVariants.{Prices, Whole}
+use Rattle.location_terms.specs.Knapsack.{has_small_knapsacks}
 use Rattle.location_terms.specs.Bound.{Duals}
 use Rattle.location_terms.specs.Tree.{Node, Leaf, Fork, Tree, nodes_of}
 use Rattle.branch_tree.specs.declared.limits.TheConstants.{MAX_TREE_NUMBERS}
@@ -16,10 +18,16 @@ use Rattle.branch_tree.specs.Made.{leaf_of}
 abbrev pub by_id : {X : Type 0} → List ℕ → List X → X → ℕ → X
 by_id ids numbers other id = unwrap_or (option_map (λ e. e.1) (find (λ e. e.0 == id) (zip ids numbers))) other
 
--- The duals of a leaf, whose form stays but where `form_on` of `Knapsack` changes it, and whose numbers go with these ids of sites and customers, for the sites and customers of the instance: 0 where the id is new, and no price where a
+-- the form of a leaf on this instance: whole knapsacks that aren't small there are let go, and what is left are the same numbers with prices of 0
+abbrev pub form_on : Instance → LeafForm → LeafForm
+form_on I Prices = Prices
+form_on I Whole = if has_small_knapsacks I then Whole else Prices
+
+-- The duals of a leaf, in its form on the instance, and whose numbers go with these ids of sites and customers, for the sites and customers of the instance: 0 where the id is new, and no price where a
 -- site has no capacity.
 abbrev pub carried_duals : Instance → List ℕ → List ℕ → Duals → Duals
 carried_duals I sites customers d = record {
+  form = form_on I d.form;
   q = d.q;
   nu = d.nu;
   v = map (λ c. by_id customers d.v (pos 0) c.id) I.customers;

@@ -1,2 +1,5 @@
 -- The definitions that the contracts cite.
 pub mod CarriedTree
+pub mod Held
+pub mod Placed
+pub mod UnderWay
