@@ -1,0 +1,16 @@
+pub mod Alike
+pub mod KeptLeaves
+pub mod LeftPaths
+pub mod Touched
+pub mod Sized
+pub mod BookSums
+pub mod Following
+pub mod Dues
+pub mod Placed
+pub mod Moved
+pub mod Differing
+pub mod Books
+pub mod SeenNumbers
+pub mod Widened
+pub mod LeafDue
+pub mod Holding
