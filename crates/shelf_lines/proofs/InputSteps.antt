@@ -1,5 +1,5 @@
 -- The lines of an input: what is told of the bytes that are left, step by step.
-use Rattle.std.proofs.Common.{◌≡◌, ℕ, ◌+◌, ◌<◌, ◌≤◌, false, not, List, [], ◌∷◌, ◌++◌, length, take, drop, refl, sym, ap, ◌∙◌, subst, arith, append_assoc, append-nil, length-append}
+use Rattle.std.proofs.Common.{◌≡◌, ℕ, ◌+◌, ◌-◌, ◌<◌, ◌≤◌, false, not, List, [], ◌∷◌, ◌++◌, length, take, drop, refl, sym, ap, ◌∙◌, subst, arith, append_assoc, append-nil, length-append}
 use Rattle.std.specs.Prelude.{Option, None, Some, IfSome}
 use Rattle.std.specs.List.{position_or_len, before_first, after_first}
 use Rattle.std.proofs.lemmas.List.{take_all, drop_all, take-append-drop, length-take}
@@ -49,6 +49,19 @@ pub unread_ended : (old new : LineState) → Takes old new → position_or_len i
     → length old.line + unread old ≡ length new.line + 1 + unread new
 unread_ended old new takes there =
     omega (arith, takes.same_limit, takes.same_at, ap length (feed_taken old new takes there), length-append old.line old.ahead, length-append new.line (10 ∷ new.ahead))
+
+-- nothing is ahead of a reader that has nothing left
+empty_of : (n : ℕ) (xs : List ℕ) → n + length xs ≡ 0 → xs ≡ []
+empty_of n [] none = refl
+empty_of n (x ∷ xs) none = absurd (omega (arith, none))
+
+pub nothing_ahead : (r : LineState) → unread r ≡ 0 → r.ahead ≡ []
+nothing_ahead r none = empty_of (r.limit - r.at) r.ahead none
+
+-- a line feed that is the last byte of all that is looked at
+pub limit_by_feed : (whole : ℕ) (at old new : LineState) → whole ≡ length at.line + unread at → unread old ≡ unread at → old.line ≡ at.line → Takes old new
+    → position_or_len is_line_feed old.ahead < length old.ahead → unread new ≡ 0 → whole ≡ length new.line + 1
+limit_by_feed whole at old new so_far same line takes there none = omega (arith, so_far, same, ap length line, unread_ended old new takes there, none)
 
 -- a step that found none takes all that is ahead
 pub told_goes_on : (whole told : Option (List ℕ)) (old new : LineState) → Takes old new → length old.ahead ≤ position_or_len is_line_feed old.ahead

@@ -4,7 +4,7 @@ ghost use Rattle.shelf_port.specs.Files.{Rose};
 ghost use Rattle.shelf_port.specs.Streams.{with_front};
 ghost use Rattle.shelf_lines.specs.Rest.{unread};
 ghost use Rattle.shelf_lines.specs.Line.{IsLine};
-ghost use Rattle.shelf_lines.specs.Input.{HasLongLine, PassesLimit};
+ghost use Rattle.shelf_lines.specs.Input.{HasLongLine, PassesLimit, IsCutShort};
 
 use crate::fault::LineFault;
 use crate::reader::{Ahead, LineReader, PIECE};
@@ -60,7 +60,7 @@ impl InputLines {
 
     /// The next line: its bytes stand in `line` afterwards, without the line feed that ended it. Where
     /// no line feed is left, what is left stands there. After a fault the bytes that were taken so far
-    /// stand there, and the reader goes on behind them.
+    /// stand there, and the reader goes on behind them; behind a read that failed no byte waits.
     ///
     /// Where one byte passes both limits, it is the line that is too long. `Failed` comes where a read
     /// failed, and `NoMemory` where the line or the source had none.
@@ -78,12 +78,14 @@ impl InputLines {
         ensures first { result ≡ Ok NextInput.LineTooLong → self.old.most < unread self.old.lines }
         ensures input_too_long { result ≡ Ok NextInput.InputTooLong →
             PassesLimit self.old.lines self.new.lines (S.left source.old) (S.left source.new) }
-        ensures is_line { OnOk result (IsLine self.new.lines.line) }
-        ensures short { OnOk result (length self.new.lines.line ≤ self.old.most) }
+        ensures is_line { IsLine self.new.lines.line }
+        ensures short { length self.new.lines.line ≤ self.old.most }
         ensures err { OnErr result (with_front self.old.lines.ahead (S.left source.old)
             ≡ with_front (self.new.lines.line ++ self.new.lines.ahead) (S.left source.new)) }
         ensures failed { IsErrOf result LineFault.Failed →
             Rose (S.faults source.old) (S.faults source.new) }
+        ensures cut { IsErrOf result LineFault.Failed →
+            IsCutShort self.old.lines self.new.lines }
 
         ensures same_most { self.new.most ≡ self.old.most }
         ensures counts { S.faults source.old ≤ S.faults source.new }
@@ -114,12 +116,13 @@ impl LineReader {
         ensures first { result ≡ Ok NextInput.LineTooLong → most < unread self.old }
         ensures input_too_long { result ≡ Ok NextInput.InputTooLong →
             PassesLimit self.old self.new (S.left source.old) (S.left source.new) }
-        ensures is_line { OnOk result (IsLine self.new.line) }
-        ensures short { OnOk result (length self.new.line ≤ most) }
+        ensures is_line { IsLine self.new.line }
+        ensures short { length self.new.line ≤ most }
         ensures err { OnErr result (with_front self.old.ahead (S.left source.old)
             ≡ with_front (self.new.line ++ self.new.ahead) (S.left source.new)) }
         ensures failed { IsErrOf result LineFault.Failed →
             Rose (S.faults source.old) (S.faults source.new) }
+        ensures cut { IsErrOf result LineFault.Failed → IsCutShort self.old self.new }
 
         ensures counts { S.faults source.old ≤ S.faults source.new }
     {
@@ -149,7 +152,8 @@ impl LineReader {
         ensures bytes { result ≡ Ok Ahead.Bytes → 0 < length self.new.ahead }
         ensures end { result ≡ Ok Ahead.End → (self.new.ahead ≡ []) × (0 < unread self.new)
             × IfSome (S.left source.new) (λ rest. rest ≡ []) }
-        ensures limit { result ≡ Ok Ahead.Limit → unread self.new ≡ 0 }
+        ensures limit { result ≡ Ok Ahead.Limit → (self.new.ahead ≡ []) × (unread self.new ≡ 0) }
+        ensures err { OnErr result ((self.new.ahead ≡ []) × (0 < unread self.new)) }
         ensures failed { IsErrOf result LineFault.Failed →
             Rose (S.faults source.old) (S.faults source.new) }
 

@@ -2,7 +2,7 @@ use Rattle.std.proofs.Common.{◌≤◌, List, ℕ, length, sym, ap, subst, inr,
 use Rattle.std.specs.List.{position_or_len}
 use Rattle.shelf_lines.specs.Line.{is_line_feed, IsLine}
 use Rattle.shelf_lines.proofs.Steps.{still_line, unread_goes_on, not_below}
-use Rattle.shelf_lines.proofs.InputSteps.{looked, told_ended, told_goes_on, still_short, long_line, long_within}
+use Rattle.shelf_lines.proofs.InputSteps.{looked, told_ended, told_goes_on, still_short, long_line, long_within, nothing_ahead, limit_by_feed}
 use Rattle.shelf_lines.proofs.reader.LineReader.next_of.Goals as goal
 
 pub returns-then-passes-clause-line_too_long : goal.returns-then-passes-clause-line_too_long
@@ -24,9 +24,13 @@ pub returns-then-is_spent-clause-input_too_long : goal.returns-then-is_spent-cla
 returns-then-is_spent-clause-input_too_long g c =
     λ _.
     record {
-      spent = c.is_spent.ensures.0 c.if-is_spent.true;
-      bytes = inr (told_ended _ _ c.peek_of.new.self c.take_to_feed.new.self c.in_ok-take_to_feed-in-Bytes.ensures.took (c.in_ok-take_to_feed-in-Bytes.ensures.found.0 c.if-branch.true)
-          (looked _ _ _ c.loop-self.self c.peek_of.new.self c.in_ok-peek_of.ensures.same_line c.in_ok-peek_of.ensures.rest c.loop-self.invariant.rest));
+      spent = nothing_ahead c.take_to_feed.new.self (c.is_spent.ensures.0 c.if-is_spent.true);
+      bytes = inr (
+        limit_by_feed _ c.loop-self.self c.peek_of.new.self c.take_to_feed.new.self c.loop-self.invariant.unread c.in_ok-peek_of.ensures.unread c.in_ok-peek_of.ensures.same_line
+            c.in_ok-take_to_feed-in-Bytes.ensures.took (c.in_ok-take_to_feed-in-Bytes.ensures.found.0 c.if-branch.true) (c.is_spent.ensures.0 c.if-is_spent.true),
+        told_ended _ _ c.peek_of.new.self c.take_to_feed.new.self c.in_ok-take_to_feed-in-Bytes.ensures.took (c.in_ok-take_to_feed-in-Bytes.ensures.found.0 c.if-branch.true)
+            (looked _ _ _ c.loop-self.self c.peek_of.new.self c.in_ok-peek_of.ensures.same_line c.in_ok-peek_of.ensures.rest c.loop-self.invariant.rest),
+      );
     }
 
 pub returns-then-is_spent-clause-is_line : goal.returns-then-is_spent-clause-is_line
