@@ -1,1 +1,4 @@
 pub mod Lines
+pub mod ServedRows
+pub mod TableLines
+pub mod JsonTexts

@@ -1,4 +1,3 @@
--- Of calls that are yet to come: no public contract cites this page.
 -- A claim and its plan as one line of JSON (RFC 8259), without spaces: keys in the order of the alphabet, amounts as texts.
 use Rattle.std.specs.Prelude.{ℕ, List, [], ◌++◌, map, Option, None, Some, codes}
 use Rattle.std.specs.List.{join_with_byte}

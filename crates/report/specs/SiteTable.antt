@@ -1,4 +1,3 @@
--- Of calls that are yet to come: no public contract cites this page.
 -- The site table of a plan: what each open site serves, what it costs, and its share of the whole cost.
 use Rattle.std.specs.Prelude.{◌==◌, ℕ, ◌+◌, ◌-◌, ◌*◌, ◌/◌, List, [], ◌++◌, map, filter, flat_map, find, length, sum_by, Option, None, Some, option_and_then, unwrap_or, codes, if◌then◌else◌}
 use Rattle.location_terms.specs.Instance.{Instance, lane, fixed_of}
@@ -6,9 +5,13 @@ use Rattle.location_terms.specs.Plan.{Plan, load_of, cost_of}
 use Rattle.number_words.specs.Cost.{micro_text}
 use Rattle.number_words.specs.Number.{digits_text}
 
--- the customers that the plan serves from a site, by id
+-- the customers that are served from a site, by id
+abbrev pub served_from : List (ℕ × ℕ) → ℕ → List ℕ
+served_from serves s = map (λ v. v.0) (filter (λ v. v.1 == s) serves)
+
+-- those that the plan serves from it
 abbrev pub customers_of : Plan → ℕ → List ℕ
-customers_of P s = map (λ v. v.0) (filter (λ v. v.1 == s) P.serves)
+customers_of P s = served_from P.serves s
 
 -- what a site costs in the plan: its fixed cost and the lanes that it uses
 abbrev pub site_cost : Instance → Plan → ℕ → ℕ
