@@ -1,15 +1,14 @@
--- Of calls that are yet to come: no public contract cites this page.
--- A session's run over the lines of its input, and the text that is due for it.
-use Rattle.std.specs.Prelude.{◌≡◌, ◌⊎◌, ℕ, ◌≤◌, List, [], ◌∷◌, ◌++◌, length, take, codes, Option, None, Some, option_map, slice_get, MatchBool}
+-- A session's run over the lines of its input, and its replies in a row.
+use Rattle.std.specs.Prelude.{◌≡◌, ◌⊎◌, ℕ, ◌≤◌, List, [], ◌∷◌, ◌++◌, length, take, Option, None, Some, option_map, slice_get, MatchBool}
 use Rattle.shelf_port.specs.Files.{Files, LeavesPrefix, NeverFalls, Rose}
 use Rattle.shelf_port.specs.Ports.{ShelfState, SourceState}
 use Rattle.location_terms.specs.Instance.{Instance}
 use Rattle.certificate_lines.specs.Text.{certificate_text}
 use Rattle.instance_text.specs.OwnText.{own_text}
-use Rattle.whatif_session.specs.Lines.{SessionLine, Save, Cert, session_line}
+use Rattle.session_lines.specs.Lines.{SessionLine, Save, Cert, session_line}
 use Rattle.whatif_session.specs.State.{SessionState, IsPresent, begun_session, standing_answer}
 use Rattle.whatif_session.specs.Step.{Moment, SessionStep}
-use Rattle.whatif_session.specs.Input.{InputEnd, ReadOut, LongLine, LongInput, input_lines, due_lines, is_ended_by_quit, FailsBehind}
+use Rattle.whatif_session.specs.Input.{InputLimits, InputEnd, ReadOut, LongLine, LongInput, input_lines, due_lines, is_ended_by_quit, FailsBehind}
 
 -- the lines are stepped one after another, and their replies together are this text
 abbrev pub StepsThrough : Moment → List (List ℕ) → List ℕ → Moment → Type 0
@@ -27,32 +26,19 @@ stop_at ReadOut = AtEnd
 stop_at LongLine = AtLongLine
 stop_at LongInput = AtLongInput
 
-abbrev pub IsDueStop : List ℕ → Stop → Type 0
-IsDueStop bytes stop = MatchBool (is_ended_by_quit bytes) (stop ≡ AtEnd) (stop ≡ stop_at (input_lines bytes).ends)
+abbrev pub IsDueStop : InputLimits → List ℕ → Stop → Type 0
+IsDueStop limits bytes stop = MatchBool (is_ended_by_quit limits bytes) (stop ≡ AtEnd) (stop ≡ stop_at (input_lines limits bytes).ends)
 
 -- some of the due lines, from the first on
-abbrev pub AreFirst : List (List ℕ) → List ℕ → Type 0
-AreFirst lines bytes = (k : ℕ) × (k ≤ length (due_lines bytes)) × (lines ≡ take k (due_lines bytes))
+abbrev pub AreFirst : InputLimits → List (List ℕ) → List ℕ → Type 0
+AreFirst limits lines bytes = (k : ℕ) × (k ≤ length (due_lines limits bytes)) × (lines ≡ take k (due_lines limits bytes))
 
 -- The session stops so behind these lines of the input. That a write of the replies was refused, and how much of them was taken, is for the contract of the run to say.
-abbrev pub StopsBehind : SourceState → SourceState → List ℕ → List (List ℕ) → Stop → Type 0
-StopsBehind before after bytes lines AtFailedRead = Rose before.faults after.faults × FailsBehind bytes lines after.left
-StopsBehind before after bytes lines OutOfMemory = AreFirst lines bytes
-StopsBehind before after bytes lines AtRefusedWrite = AreFirst lines bytes
-StopsBehind before after bytes lines stop = IsDueStop bytes stop × (lines ≡ due_lines bytes)
-
--- the line that is due behind the replies
-abbrev pub stop_text : Stop → List ℕ
-stop_text AtEnd = []
-stop_text AtLongLine = codes "too large line\n"
-stop_text AtLongInput = codes "too large input\n"
-stop_text AtFailedRead = codes "read fault\n"
-stop_text OutOfMemory = codes "no memory\n"
-stop_text AtRefusedWrite = []
-
--- the text that is due for a session: its replies, and the line of its status
-abbrev pub due_text : List ℕ → Stop → List ℕ
-due_text replies stop = replies ++ stop_text stop
+abbrev pub StopsBehind : InputLimits → SourceState → SourceState → List ℕ → List (List ℕ) → Stop → Type 0
+StopsBehind limits before after bytes lines AtFailedRead = Rose before.faults after.faults × FailsBehind limits bytes lines after.left
+StopsBehind limits before after bytes lines OutOfMemory = AreFirst limits lines bytes
+StopsBehind limits before after bytes lines AtRefusedWrite = AreFirst limits lines bytes
+StopsBehind limits before after bytes lines stop = IsDueStop limits bytes stop × (lines ≡ due_lines limits bytes)
 
 -- the input holds these bytes, as far as it tells
 abbrev pub MayGive : Option (List ℕ) → List ℕ → Type 0
@@ -66,27 +52,27 @@ due_file I state (Some (Cert name)) = option_map (λ cert. (name, certificate_te
 due_file I state line = None
 
 -- memory ran out within the line behind these, which was to write a file: that is as it was, or holds a front of the text
-pub record IsCutOff (bytes : List ℕ) (lines : List (List ℕ)) (last : Moment) (files : Option Files) : Type 0 where
+pub record IsCutOff (limits : InputLimits) (bytes : List ℕ) (lines : List (List ℕ)) (last : Moment) (files : Option Files) : Type 0 where
   pub instance : Instance
   pub present : IsPresent last.session instance
   pub line : List ℕ
-  pub is_next : slice_get (due_lines bytes) (length lines) ≡ Some line
+  pub is_next : slice_get (due_lines limits bytes) (length lines) ≡ Some line
   pub name : List ℕ
   pub text : List ℕ
   pub is_due : due_file instance last.session (session_line line) ≡ Some (name, text)
   pub left : LeavesPrefix last.files files name text
 
 -- the files are as the steps left them, but for one that was being written when memory ran out
-abbrev pub FilesLeft : Stop → List ℕ → List (List ℕ) → Moment → Option Files → Type 0
-FilesLeft OutOfMemory bytes lines last files = (files ≡ last.files) ⊎ IsCutOff bytes lines last files
-FilesLeft stop bytes lines last files = files ≡ last.files
+abbrev pub FilesLeft : InputLimits → Stop → List ℕ → List (List ℕ) → Moment → Option Files → Type 0
+FilesLeft limits OutOfMemory bytes lines last files = (files ≡ last.files) ⊎ IsCutOff limits bytes lines last files
+FilesLeft limits stop bytes lines last files = files ≡ last.files
 
 -- a session on an instance, between two states of the shelf and of the input
-pub record SessionRun (I : Instance) (shelf_before shelf_after : ShelfState) (input_before input_after : SourceState) (stop : Stop) (replies : List ℕ) : Type 0 where
+pub record SessionRun (limits : InputLimits) (I : Instance) (shelf_before shelf_after : ShelfState) (input_before input_after : SourceState) (stop : Stop) (replies : List ℕ) : Type 0 where
   pub bytes : List ℕ
   pub given : MayGive input_before.left bytes
   pub lines : List (List ℕ)
-  pub stops : StopsBehind input_before input_after bytes lines stop
+  pub stops : StopsBehind limits input_before input_after bytes lines stop
   pub first : Moment
   pub last : Moment
   pub begins : first.session ≡ begun_session I
@@ -94,4 +80,13 @@ pub record SessionRun (I : Instance) (shelf_before shelf_after : ShelfState) (in
   pub since : NeverFalls shelf_before.writes first.failed_writes
   pub steps : StepsThrough first lines replies last
   pub until : NeverFalls last.failed_writes shelf_after.writes
-  pub files_after : FilesLeft stop bytes lines last shelf_after.files
+  pub files_after : FilesLeft limits stop bytes lines last shelf_after.files
+
+-- the last line of a run has this reply, behind those to the lines before it
+pub record RepliesLast (old : Moment) (lines : List (List ℕ)) (done reply : List ℕ) (new : Moment) : Type 0 where
+  pub earlier : List (List ℕ)
+  pub line : List ℕ
+  pub lines_are : lines ≡ earlier ++ line ∷ []
+  pub before : Moment
+  pub steps : StepsThrough old earlier done before
+  pub step : SessionStep before line reply new

@@ -1,5 +1,4 @@
--- Of calls that are yet to come: no public contract cites this page.
--- What a session is: the instance that it began with, the edits that it accepted and didn't take back, and its last solves. It holds no inverse of an edit: the present
+-- What a session is: the instance that it began with, the edits that it accepted and didn't take back, and its last solves. No inverse of an edit is part of it: the present
 -- instance is what the edits make of the first one.
 use Rattle.std.specs.Prelude.{◌≡◌, ◌==◌, ℕ, ◌+◌, ◌-◌, List, [], ◌∷◌, ◌++◌, map, find, length, take, drop, Option, None, Some, option_map, option_and_then, unwrap_or, is_some, Ok, if◌then◌else◌}
 use Rattle.std.specs.List.{last_or}
@@ -10,15 +9,11 @@ use Rattle.location_terms.specs.Tree.{Tree}
 use Rattle.location_terms.specs.Certificate.{Certificate}
 use Rattle.instance_edits.specs.declared.edit.Edit.{Edit}
 use Rattle.instance_edits.specs.Edits.{edits_applied}
+use Rattle.edit_history.specs.History.{HeldEdit}
 use Rattle.dual_value.specs.Zeros.{zeros}
 use Rattle.branch_tree.specs.Made.{leaf_of}
 use Rattle.leaf_repair.specs.CarriedTree.{carried_tree}
 use Rattle.whatif_session.specs.declared.limits.TheConstants.{KEPT_SOLVES}
-
--- an edit that was accepted, and the serial number of the tree that stood then
-pub record HeldEdit : Type 0 where
-  pub edit : Edit
-  pub serial : Option ℕ
 
 -- a solve: its serial number, counted from 1, the tree that it grew, and its plan, where it has one
 pub record Solved : Type 0 where
@@ -34,6 +29,11 @@ pub record SessionState : Type 0 where
   pub present : Option ℕ
   pub standing : Option Claim
 
+-- a session with its present instance
+pub record SessionView : Type 0 where
+  pub state : SessionState
+  pub instance : Instance
+
 -- a session that begins
 abbrev pub begun_session : Instance → SessionState
 begun_session I = record { base = I; edits = []; solves = []; present = None; standing = None }
@@ -42,13 +42,23 @@ begun_session I = record { base = I; edits = []; solves = []; present = None; st
 abbrev pub IsPresent : SessionState → Instance → Type 0
 IsPresent state I = edits_applied state.base (map (λ held. held.edit) state.edits) ≡ Ok I
 
+-- a session that begins on this instance, which is the present one
+abbrev pub session_on : Instance → SessionView
+session_on I = record { state = begun_session I; instance = I }
+
 -- the serial number of the last solve, and 0 where there was none
+abbrev pub last_of : List Solved → ℕ
+last_of solves = unwrap_or (last_or None (map (λ solved. solved.serial) solves)) 0
+
 abbrev pub last_serial : SessionState → ℕ
-last_serial state = unwrap_or (last_or None (map (λ solved. solved.serial) state.solves)) 0
+last_serial state = last_of state.solves
 
 -- the solve of a serial number, where it is kept
+abbrev pub found_in : List Solved → ℕ → Option Solved
+found_in solves serial = find (λ solved. solved.serial == serial) solves
+
 abbrev pub kept_solve : SessionState → ℕ → Option Solved
-kept_solve state serial = find (λ solved. solved.serial == serial) state.solves
+kept_solve state serial = found_in state.solves serial
 
 -- the solve whose tree is the present one
 abbrev pub present_solve : SessionState → Option Solved

@@ -1,9 +1,10 @@
--- Of calls that are yet to come: no public contract cites this page.
 -- One step of a session: what a line does to the session and to the files, and its reply. All but a solve is a function of the session, the present instance and the line, with one
 -- exception: a file that is to be written may not be, where the count of its failed writes rose.
 use Rattle.std.specs.Prelude.{◌≡◌, ◌⊎◌, ℕ, List, [], length, Option, None, Some, nat_lt, nat_le, Result, Ok, Err, MatchBool, if◌then◌else◌}
 use Rattle.std.specs.List.{last_or}
 use Rattle.shelf_port.specs.Files.{Files, with_file, LeavesPrefix, Rose, NeverFalls}
+use Rattle.shelf_port.specs.Ports.{ShelfState}
+use Rattle.location_terms.specs.declared.claim.Claim.{Claim}
 use Rattle.location_terms.specs.Instance.{Instance}
 use Rattle.location_terms.specs.Plan.{Plan}
 use Rattle.location_terms.specs.Tree.{nodes_of}
@@ -14,18 +15,22 @@ use Rattle.instance_edits.specs.declared.edit.EditFault.{EditFault}
 use Rattle.instance_edits.specs.Edits.{edited}
 use Rattle.tree_search.specs.Budget.{max_budget, budget_in}
 use Rattle.tree_search.specs.declared.answer.Answer.{Answer}
-use Rattle.tree_search.specs.Answer.{IsAnswerTo, plan_in, tree_in, made_in, claim_in}
+use Rattle.tree_search.specs.Answer.{IsAnswerTo, plan_in, tree_in, made_in, claim_in, certificate_in}
 use Rattle.certificate_lines.specs.Text.{certificate_text}
 use Rattle.instance_text.specs.OwnText.{own_text}
 use Rattle.report.specs.PlanText.{plan_text_of}
 use Rattle.report.specs.SiteTable.{site_table_of}
 use Rattle.report.specs.Json.{json_text_of}
-use Rattle.whatif_session.specs.declared.fault.SessionFault.{SessionFault}
-use Rattle.whatif_session.specs.declared.fault.SessionFault.TheVariants as fault
+use Rattle.session_lines.specs.declared.answer_form.AnswerForm.{AnswerForm}
+use Rattle.session_lines.specs.declared.answer_form.AnswerForm.TheVariants as forms
+use Rattle.session_lines.specs.declared.fault.SessionFault.{SessionFault}
+use Rattle.session_lines.specs.declared.fault.SessionFault.TheVariants as fault
 use Rattle.whatif_session.specs.declared.limits.TheConstants.{MAX_EDITS}
-use Rattle.whatif_session.specs.Lines.{SessionLine, Blank, TakeBack, ShowAnswer, ShowTable, ShowJson, Quit, Change, Solve, Save, Cert, session_line}
-use Rattle.whatif_session.specs.State.{SessionState, HeldEdit, IsPresent, present_plan, starting_tree, standing_answer, with_edit, without_edit, with_solve}
-use Rattle.whatif_session.specs.Replies.{refused_text, ok_text, edit_text, solve_text}
+use Rattle.session_lines.specs.Lines.{SessionLine, Blank, TakeBack, Quit, Show, Change, Solve, Save, Cert, session_line}
+use Rattle.whatif_session.specs.Standing.{IsStanding}
+use Rattle.edit_history.specs.History.{HeldEdit}
+use Rattle.whatif_session.specs.State.{SessionState, IsPresent, present_plan, starting_tree, standing_answer, with_edit, without_edit, with_solve}
+use Rattle.session_lines.specs.Replies.{refusal_text, ok_text, edit_text, solve_text}
 
 -- a session at a moment of its run, with the files, where they are told, and how many writes of each name have failed
 pub record Moment : Type 0 where
@@ -52,11 +57,6 @@ abbrev pub told_undo : SessionState → Option HeldEdit → Told
 told_undo state None = Err fault.NothingToUndo
 told_undo state (Some held) = Ok (ok_text, without_edit state held)
 
--- a text of the standing answer
-abbrev pub told_answer : SessionState → (Certificate → List ℕ) → Option Certificate → Told
-told_answer state text None = Err fault.Stale
-told_answer state text (Some cert) = Ok (text cert, state)
-
 -- the reply is the one that is told, and so is the session that is left; no file is changed
 pub record Replies (text : List ℕ) (state : SessionState) (old : Moment) (reply : List ℕ) (new : Moment) : Type 0 where
   pub reply_is : reply ≡ text
@@ -66,7 +66,7 @@ pub record Replies (text : List ℕ) (state : SessionState) (old : Moment) (repl
 -- a refusal leaves the session as it is
 abbrev pub IsReplied : Told → Moment → List ℕ → Moment → Type 0
 IsReplied (Ok told) old reply new = Replies told.0 told.1 old reply new
-IsReplied (Err refusal) old reply new = Replies (refused_text refusal) old.session old reply new
+IsReplied (Err refusal) old reply new = Replies (refusal_text refusal) old.session old reply new
 
 -- Lines that write a file.
 
@@ -78,27 +78,49 @@ pub record IsWritten (name text : List ℕ) (old : Moment) (reply : List ℕ) (n
 -- a write failed: the file is as it was, or holds a front of the text
 pub record IsLeftUnwritten (name text : List ℕ) (old : Moment) (reply : List ℕ) (new : Moment) : Type 0 where
   pub failed : Rose (old.failed_writes name) (new.failed_writes name)
-  pub reply_is : reply ≡ refused_text fault.WriteFailed
+  pub reply_is : reply ≡ refusal_text fault.WriteFailed
   pub files : LeavesPrefix old.files new.files name text
 
 -- the text is to be written to the file of this name, and the session stays
 abbrev pub Writes : List ℕ → List ℕ → Moment → List ℕ → Moment → Type 0
 Writes name text old reply new = (new.session ≡ old.session) × (IsWritten name text old reply new ⊎ IsLeftUnwritten name text old reply new)
 
--- the certificate of the standing answer is to be written, where one stands
+-- The standing answer.
+
+-- the text of an answer in this form: the plan text, the site table of its plan, or one line of JSON
+abbrev pub answer_text : AnswerForm → Instance → Claim → Option Plan → List ℕ
+answer_text forms.Plan I claim plan = plan_text_of I claim plan
+answer_text forms.Table I claim plan = site_table_of I plan
+answer_text forms.Json I claim plan = json_text_of I claim plan
+
+-- the text of the standing answer is the reply, where one stands: its claim holds, and its certificate is accepted
+abbrev pub ShowsAnswer : Instance → AnswerForm → Option Certificate → Moment → List ℕ → Moment → Type 0
+ShowsAnswer I form None old reply new = IsReplied (Err fault.Stale) old reply new
+ShowsAnswer I form (Some cert) old reply new = IsStanding I cert × Replies (answer_text form I cert.claim cert.plan) old.session old reply new
+
+-- the certificate of the standing answer is to be written, where one stands: it is accepted
 abbrev pub WritesAnswer : List ℕ → Instance → Option Certificate → Moment → List ℕ → Moment → Type 0
 WritesAnswer name I None old reply new = IsReplied (Err fault.Stale) old reply new
-WritesAnswer name I (Some cert) old reply new = Writes name (certificate_text I cert) old reply new
+WritesAnswer name I (Some cert) old reply new = IsStanding I cert × Writes name (certificate_text I cert) old reply new
 
 -- Solves.
 
--- A search from the carried tree, which is handed the carried plan where that is feasible, came to this answer. So leaves that close with the plan's cost stand, and are not made again.
-pub record Solves (I : Instance) (budget : ℕ) (old : Moment) (reply : List ℕ) (new : Moment) : Type 0 where
+-- A search from the carried tree, which is handed the carried plan where that is feasible, came to this answer. So leaves that close with the plan's cost stand, and are not made again. What
+-- the answer claims of the instance holds, and its certificate is accepted.
+pub record IsSolvedBy (old : SessionState) (I : Instance) (budget : ℕ) (answer : Answer) : Type 0 where
   pub handed : Option Plan
-  pub is_handed : IsHanded I (present_plan old.session) handed
+  pub is_handed : IsHanded I (present_plan old) handed
+  pub found : IsAnswerTo I (starting_tree old I) handed budget answer
+  pub stands : IsStanding I (certificate_in I answer)
+
+-- the session once it is solved
+abbrev pub solved : SessionState → Instance → Answer → SessionState
+solved old I answer = with_solve old (claim_in I answer) (tree_in answer) (plan_in answer)
+
+pub record Solves (I : Instance) (budget : ℕ) (old : Moment) (reply : List ℕ) (new : Moment) : Type 0 where
   pub answer : Answer
-  pub found : IsAnswerTo I (starting_tree old.session I) handed budget answer
-  pub replies : Replies (solve_text (claim_in I answer) (made_in answer) (nodes_of (tree_in answer)) budget) (with_solve old.session (claim_in I answer) (tree_in answer) (plan_in answer)) old reply new
+  pub is_solved : IsSolvedBy old.session I budget answer
+  pub replies : Replies (solve_text (claim_in I answer) (made_in answer) (nodes_of (tree_in answer)) budget) (solved old.session I answer) old reply new
 
 abbrev pub SolvesWithin : Instance → ℕ → Moment → List ℕ → Moment → Type 0
 SolvesWithin I budget old reply new = MatchBool (nat_lt (max_budget I) budget) (IsReplied (Err fault.BudgetTooLarge) old reply new) (Solves I budget old reply new)
@@ -113,11 +135,13 @@ Does I (Some Quit) old reply new = Replies [] old.session old reply new
 Does I (Some (Change e)) old reply new = IsReplied (told_change old.session I e) old reply new
 Does I (Some TakeBack) old reply new = IsReplied (told_undo old.session (last_or None old.session.edits)) old reply new
 Does I (Some (Solve given)) old reply new = SolvesWithin I (budget_in I given) old reply new
-Does I (Some ShowAnswer) old reply new = IsReplied (told_answer old.session (λ cert. plan_text_of I cert.claim cert.plan) (standing_answer old.session)) old reply new
-Does I (Some ShowTable) old reply new = IsReplied (told_answer old.session (λ cert. site_table_of I cert.plan) (standing_answer old.session)) old reply new
-Does I (Some ShowJson) old reply new = IsReplied (told_answer old.session (λ cert. json_text_of I cert.claim cert.plan) (standing_answer old.session)) old reply new
+Does I (Some (Show form)) old reply new = ShowsAnswer I form (standing_answer old.session) old reply new
 Does I (Some (Save name)) old reply new = Writes name (own_text I) old reply new
 Does I (Some (Cert name)) old reply new = WritesAnswer name I (standing_answer old.session) old reply new
+
+-- a session at a moment, over a shelf in this state
+abbrev pub moment_at : SessionState → ShelfState → Moment
+moment_at session shelf = record { session = session; files = shelf.files; failed_writes = shelf.writes }
 
 -- a line takes the session from one moment to the next, with this reply
 pub record SessionStep (old : Moment) (line reply : List ℕ) (new : Moment) : Type 0 where

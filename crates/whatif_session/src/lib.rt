@@ -2,8 +2,23 @@
 //! one answer is carried over to the next question. The definitions are in `specs/`.
 #![tactic(auto)]
 
-mod fault;
+mod kept_book;
 mod limits;
+mod reply;
+mod session;
+mod session_solves;
+mod solves;
+mod solving;
+mod starting;
+mod step;
+mod writing;
 
-pub use fault::SessionFault;
+pub use certificate_text::CertificateRef;
+pub use instance_edits::{Edit, EditFault};
+pub use instance_store::{Instance, NoMemory};
+pub use leaf_book::LeafBook;
 pub use limits::{KEPT_SOLVES, MAX_EDITS, MAX_INPUT_BYTES, MAX_LINE_BYTES};
+pub use reply::Reply;
+pub use session::Session;
+pub use session_lines::{Came, SessionFault};
+pub use solving::Outcome;

@@ -1,0 +1,6 @@
+mod Rings
+mod Starts
+mod Sounds
+mod Booked
+mod Steps
+mod Followed
