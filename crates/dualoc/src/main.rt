@@ -7,9 +7,18 @@ use shelf_port::{RealShelf, RealSink, RealSource, write_whole};
 use std::env::Env;
 use std::io::ErrorKind;
 use std::process::ExitCode;
-use std::{env, io};
+use std::{env, fs, io};
+
+// Where a standard stream was closed before the start, the next file that is opened takes its number, and what is
+// printed would go to that file. This one gives nothing and takes nothing.
+const NO_STREAM: &str = "/dev/null";
 
 fn main(rt: HostRuntime) -> ExitCode {
+    let _streams = [
+        fs::open(&rt, NO_STREAM).ok(),
+        fs::open(&rt, NO_STREAM).ok(),
+        fs::open(&rt, NO_STREAM).ok(),
+    ];
     let mut out = RealSink::new(&rt);
     let status = match words(&rt) {
         Ok(words) => {

@@ -1,11 +1,9 @@
 -- That replies have their causes.
-use Rattle.std.proofs.Common.{◌≡◌, ◌⊎◌, Ok, Err, ℕ, ◌+◌, ◌*◌, ◌<◌, ◌≤◌, List, [], length, Option, None, Some, sym, refl, ap, ◌∙◌, subst, inl, inr, arith}
-use Rattle.std.specs.Prelude.{IsSomeAnd, replicate, pos, ◌≤ℤ◌}
-use Rattle.std.specs.FinMap.{get}
+use Rattle.std.proofs.Common.{◌≡◌, ◌⊎◌, Ok, Err, ℕ, ◌*◌, ◌≤◌, List, [], length, Option, Some, sym, refl, ap, ◌∙◌, subst, inl, inr, arith}
+use Rattle.std.specs.Prelude.{pos, ◌≤ℤ◌}
 use Rattle.std.proofs.lemmas.Int.{ints}
-use Rattle.std.proofs.lemmas.List.{length-replicate}
 use Rattle.std.proofs.lemmas.List.Elements.{All-nil}
-use Rattle.shelf_port.specs.Files.{Files, HasFile, MayHold, Rose, NeverFalls}
+use Rattle.shelf_port.specs.Files.{Files, MayHold, Rose, NeverFalls}
 use Rattle.shelf_port.specs.Ports.{ShelfState}
 use Rattle.location_terms.specs.Instance.{Instance, IsValid}
 use Rattle.location_terms.specs.Optimal.{ClaimHolds}
@@ -23,12 +21,6 @@ use Rattle.dual_ascent.specs.Kept.{Keeps}
 use Rattle.dual_ascent.proofs.Plain.{plain_keeps, plain_values, plain_slacks, plain_bound}
 use Rattle.dual_ascent.proofs.Small.{value_small, slack_small, bound_small}
 use Rattle.report.specs.DualsText.{ArePrintable}
-use Rattle.instance_store.specs.Small.{IsSmall}
-use Rattle.ufllib_read.proofs.Meant as ufl
-use Rattle.orlib_read.specs.declared.capacities.Capacities.TheVariants.{Kept, Ignored}
-use Rattle.orlib_read.proofs.Meant as warehouses
-use Rattle.pmed_paths.proofs.Meant as networks
-use Rattle.instance_text.proofs.Meant as own
 use Rattle.certificate_lines.specs.Text.{certificate_text}
 use Rattle.certificate_lines.specs.Follow.{HasSmallCosts}
 use Rattle.certificate_lines.specs.declared.kind.CertKind.{CertKind}
@@ -37,47 +29,44 @@ use Rattle.certificate_lines.specs.declared.fault.CertFault.TheVariants.{Text, T
 use Rattle.certificate_check.specs.declared.verdict.Verdict.{Verdict}
 use Rattle.certificate_check.specs.declared.verdict.Verdict.TheVariants.{Yes, No}
 use Rattle.certificate_check.specs.Verdict.{Answer, IsAnswer, IsUnread}
-use Rattle.dualoc_cli.specs.declared.words.FileForm.{FileForm}
-use Rattle.dualoc_cli.specs.declared.words.FileForm.TheVariants.{Cap, Uncap, Ufl, Pmed, Own}
-use Rattle.fixed_cost.specs.declared.limits.TheConstants.{MAX_INSTANCE_BYTES}
+use Rattle.fixed_cost.specs.declared.fault.FileFault.{FileFault}
+use Rattle.instance_forms.specs.Forms.{InstanceFile}
+use Rattle.instance_forms.specs.Reading.{HasMeaning, IsLong}
+use Rattle.instance_forms.proofs.Meant.{valid-meant}
 use Rattle.dualoc_cli.specs.declared.reply.Reply.{Reply}
-use Rattle.dualoc_cli.specs.declared.reply.Reply.TheVariants.{Optimum, Ascent, CertificateUnread, LongCertificate, Misspelt, Judged}
-use Rattle.dualoc_cli.specs.Command.{InstanceFile, Job, OnFile, SolveShort, SolveLong, ShowDuals, Check, Convert, command_of, meaning_of, meaning_in}
-use Rattle.dualoc_cli.specs.Due.{Run, IsTooLong, HasTask, FailsToRead, IsRaised, IsAnswered, IsConfirmed, IsCause, ChangesNoFile, KeepsFiles}
-use Rattle.dualoc_cli.specs.Step.{Covers, IsPrintable}
+use Rattle.dualoc_cli.specs.declared.reply.Reply.TheVariants.{Reached}
+use Rattle.dualoc_cli.specs.declared.reply.Outcome.{Outcome}
+use Rattle.dualoc_cli.specs.declared.reply.Outcome.TheVariants.{Optimum, Ascent, Misspelt, Judged}
+use Rattle.dualoc_cli.specs.Command.{Job, OnFile, SolveShort, SolveLong, ShowDuals, Check, Convert, Session, command_of}
+use Rattle.dualoc_cli.specs.Run.{Run, IsTooLong, HasFileFault, HasTask, FailsToRead, ChangesNoFile}
+use Rattle.dualoc_cli.specs.Duals.{IsRaised}
+use Rattle.dualoc_cli.specs.Check.{CertificateFails, IsAnswered, IsConfirmed}
+use Rattle.dualoc_cli.specs.Due.{IsOutcomeOf, IsCause, KeepsFiles}
+use Rattle.dualoc_cli.specs.Step.{Covers, CanBePrinted, IsPrintable}
 use Rattle.dualoc_cli.proofs.Commands.{suited}
 
--- what a read of the whole file told, as what the file may hold
-read_bytes : (found : Option (List ℕ)) (bytes : List ℕ) → IsSomeAnd found (λ file. bytes ≡ file) → found ≡ Some bytes
-read_bytes None bytes h = absurd h
-read_bytes (Some file) bytes h = ap Some (sym h)
-
-pub may_hold : (told : Option Files) (name bytes : List ℕ) → HasFile told name (λ file. bytes ≡ file) → MayHold told name bytes
-may_hold None name bytes h = tt
-may_hold (Some files) name bytes h = read_bytes (get files name) bytes h
-
-longer : (n : ℕ) → (bytes : List ℕ) × (n < length bytes)
-longer n = (replicate (n + 1) 0, omega (arith, length-replicate {A = ℕ} (n + 1) 0))
-
-long_bytes : (n : ℕ) (found : Option (List ℕ)) → IsSomeAnd found (λ file. n < length file) → (bytes : List ℕ) × (found ≡ Some bytes) × (n < length bytes)
-long_bytes n None h = absurd h
-long_bytes n (Some file) h = (file, refl, h)
-
--- a file that is told to be longer than n holds such bytes; one that is not told may
-may_hold_long : (n : ℕ) (told : Option Files) (name : List ℕ) → HasFile told name (λ file. n < length file) → (bytes : List ℕ) × MayHold told name bytes × (n < length bytes)
-may_hold_long n None name h = let long = longer n in (long.0, tt, long.1)
-may_hold_long n (Some files) name h = long_bytes n (get files name) h
-
-pub too_long : (r : Run) (file : InstanceFile) (job : Job) (told : Option Files) → command_of r.words ≡ Some (OnFile file job) → told ≡ r.before.shelf.files
-    → HasFile told file.name (λ bytes. MAX_INSTANCE_BYTES < length bytes) → IsTooLong r
+-- the instance's file is too long, as a part of the run tells
+pub too_long : (r : Run) (file : InstanceFile) (job : Job) (told : Option Files) → command_of r.words ≡ Some (OnFile file job) → told ≡ r.before.shelf.files → IsLong told file.name → IsTooLong r
 too_long r file job told words_are same long =
-    let held = may_hold_long MAX_INSTANCE_BYTES told file.name long in
     record {
       file = file;
       job = job;
-      bytes = held.0;
-      asked = record { words_are = words_are; held = subst (λ t. MayHold t file.name held.0) same held.1 };
-      beyond = held.2;
+      bytes = long.bytes;
+      asked = record { words_are = words_are; held = subst (λ t. MayHold t file.name long.bytes) same long.held };
+      beyond = long.beyond;
+    }
+
+-- the first fault of the instance's file
+pub file_fault : (r : Run) (file : InstanceFile) (job : Job) (told : Option Files) (fault : FileFault) → command_of r.words ≡ Some (OnFile file job) → told ≡ r.before.shelf.files
+    → HasMeaning told file (Err fault) → HasFileFault r fault
+file_fault r file job told fault words_are same has =
+    record {
+      file = file;
+      job = job;
+      bytes = has.bytes;
+      asked = record { words_are = words_are; held = subst (λ t. MayHold t file.name has.bytes) same has.held };
+      within = has.within;
+      means = has.means;
     }
 
 -- a count that rose over a part of the time rose over all of it
@@ -96,6 +85,7 @@ keeps r (SolveLong into given) same = inl same
 keeps r ShowDuals same = same
 keeps r (Check certificate) same = same
 keeps r (Convert new) same = inl same
+keeps r Session same = inl same
 
 pub changes_none : (r : Run) (old new : ShelfState) → Covers r old new → new.files ≡ old.files → ChangesNoFile r
 changes_none r old new part same = sym part.left ∙ same ∙ part.files
@@ -116,27 +106,20 @@ covers_rest r old mid new part same reads writes =
     }
 
 -- the task of a run whose instance was read
-pub task_of : (r : Run) (file : InstanceFile) (job : Job) (told : Option Files) (bytes : List ℕ) (I : Instance) → command_of r.words ≡ Some (OnFile file job) → told ≡ r.before.shelf.files
-    → HasFile told file.name (λ b. bytes ≡ b) → length bytes ≤ MAX_INSTANCE_BYTES → meaning_in file bytes ≡ Ok I → HasTask r job I
-task_of r file job told bytes I words_are same has within means =
+pub task_of : (r : Run) (file : InstanceFile) (job : Job) (told : Option Files) (I : Instance) → command_of r.words ≡ Some (OnFile file job) → told ≡ r.before.shelf.files
+    → HasMeaning told file (Ok I) → HasTask r job I
+task_of r file job told I words_are same has =
     record {
       file = file;
-      bytes = bytes;
-      asked = record { words_are = words_are; held = subst (λ f. MayHold f file.name bytes) same (may_hold told file.name bytes has) };
-      within = within;
-      means = means;
+      bytes = has.bytes;
+      asked = record { words_are = words_are; held = subst (λ t. MayHold t file.name has.bytes) same has.held };
+      within = has.within;
+      means = has.means;
     }
 
 -- the instance of a task is valid
-valid_in : (form : FileForm) (given : Option ℕ) (bytes : List ℕ) (I : Instance) → IsSmall given → meaning_of form given bytes ≡ Ok I → IsValid I
-valid_in Cap given bytes I small means = warehouses.valid-meant (Kept given) bytes I small means
-valid_in Uncap given bytes I small means = warehouses.valid-meant Ignored bytes I tt means
-valid_in Ufl given bytes I small means = ufl.valid-meant bytes I means
-valid_in Pmed given bytes I small means = networks.valid-meant bytes I means
-valid_in Own given bytes I small means = own.valid-meant bytes I means
-
 pub task_valid : (r : Run) (job : Job) (I : Instance) → HasTask r job I → IsValid I
-task_valid r job I task = valid_in task.file.form task.file.given task.bytes I (suited r.words task.file job task.asked.words_are).small task.means
+task_valid r job I task = valid-meant task.file task.bytes I (suited r.words task.file job task.asked.words_are).small task.means
 
 -- the duals of an ascent from zeros can be printed
 ascent_printable : (I : Instance) (d : Duals) → IsValid I → IsAscended I [] (zeros I 1) d → ArePrintable I d
@@ -150,9 +133,13 @@ ascent_printable I d valid asc =
     }
 
 -- the text of a reply that has its cause can be made
+can_be_printed : (r : Run) (outcome : Outcome) → IsOutcomeOf r outcome → CanBePrinted outcome
+can_be_printed r (Optimum I P cost) cause = cause.optimal.feasible
+can_be_printed r (Ascent I d) cause = ascent_printable I d (task_valid r ShowDuals I cause.task) cause.ascended
+can_be_printed r outcome cause = tt
+
 pub printable : (r : Run) (reply : Reply) → IsCause r reply → IsPrintable reply
-printable r (Optimum I P cost) cause = cause.optimal.feasible
-printable r (Ascent I d) cause = ascent_printable I d (task_valid r ShowDuals I cause.task) cause.ascended
+printable r (Reached outcome) cause = can_be_printed r outcome cause
 printable r reply cause = tt
 
 -- no plan costs less than the bound of an ascent from zeros
@@ -210,7 +197,7 @@ module _ (r : Run) (old new : ShelfState) (name : List ℕ) (I : Instance) (task
   read_answer verdict (inl e) = cc
   read_answer verdict (inr e) = cc
 
-  pub judged : (verdict : Verdict) → Seen (Ok verdict) → ((claim : Claim) → ◌≡◌ {A = Answer} (Ok verdict) (Ok (Yes claim)) → Shown claim) → IsCause r (Judged verdict)
+  pub judged : (verdict : Verdict) → Seen (Ok verdict) → ((claim : Claim) → ◌≡◌ {A = Answer} (Ok verdict) (Ok (Yes claim)) → Shown claim) → IsOutcomeOf r (Judged verdict)
   judged (Yes claim) seen shows = confirmed claim (shows claim refl)
   judged (No line why) seen shows = answered (Ok (No line why)) (read_answer (No line why)) seen
 
@@ -218,15 +205,15 @@ module _ (r : Run) (old new : ShelfState) (name : List ℕ) (I : Instance) (task
   text_unread kind line (inl e) = cc
   text_unread kind line (inr e) = cc
 
-  pub misspelt : (kind : CertKind) (line : ℕ) → Seen (Err (Text kind line)) → IsCause r (Misspelt kind line)
+  pub misspelt : (kind : CertKind) (line : ℕ) → Seen (Err (Text kind line)) → IsOutcomeOf r (Misspelt kind line)
   misspelt kind line seen = answered (Err (Text kind line)) (text_unread kind line) seen
 
   long_unread : IsUnread (Err TooLong) → ⊥
   long_unread (inl e) = cc
   long_unread (inr e) = cc
 
-  pub long : Seen (Err TooLong) → IsCause r LongCertificate
+  pub long : Seen (Err TooLong) → IsAnswered r (Err TooLong)
   long seen = answered (Err TooLong) long_unread seen
 
-  pub unread : Rose (old.reads name) (new.reads name) → IsCause r CertificateUnread
+  pub unread : Rose (old.reads name) (new.reads name) → CertificateFails r
   unread rose = record { instance = I; name = name; task = task; fails = fails_in r old new name part rose }

@@ -1,18 +1,22 @@
 -- What is so of every command.
-use Rattle.std.proofs.Common.{◌≡◌, ℕ, ◌≤◌, Bool, true, false, List, [], ◌∷◌, Option, None, Some, Result, Ok, Err, refl, subst}
+use Rattle.std.proofs.Common.{◌≡◌, ℕ, ◌≤◌, Bool, true, false, List, [], ◌∷◌, Option, None, Some, Result, Ok, Err, refl, subst, arith}
 use Rattle.std.specs.Prelude.{IfSome, drop, codes, bytes_eq, if◌then◌else◌}
-use Rattle.std.specs.Option.{is_none, option_map, option_and_then, option_or}
+use Rattle.std.specs.Option.{option_map, option_and_then, option_or}
 use Rattle.std.specs.Result.{result_ok}
+use Rattle.std.proofs.lemmas.Bool.Decides.{nat_tests}
 use Rattle.location_terms.specs.declared.limits.TheConstants.{MAX_AMOUNT}
+use Rattle.location_terms.specs.Instance.{AreSizes}
 use Rattle.fixed_cost.specs.Amount.{amount_of}
 use Rattle.fixed_cost.specs.declared.amount.AmountFault.{AmountFault}
 use Rattle.fixed_cost.proofs.ReadFacts.{amount_of-small}
 use Rattle.instance_store.specs.Small.{IsSmall}
+use Rattle.instance_forms.specs.declared.form.FileForm.TheVariants.{Ufl}
+use Rattle.instance_forms.specs.Forms.{InstanceFile, instance_file, file_of, capacity_of}
+use Rattle.instance_forms.proofs.Meant.{file_small}
 use Rattle.dualoc_cli.specs.declared.options.Options.{Options}
-use Rattle.dualoc_cli.specs.declared.words.FileForm.{FileForm}
-use Rattle.dualoc_cli.specs.declared.words.FileForm.TheVariants.{Cap, Ufl}
-use Rattle.dualoc_cli.specs.Command.{Command, OnFile, InstanceFile, instance_file, ResultFiles, into_files, Job, SolveShort, SolveLong, ShowDuals, Check, Convert, are_names, form_of, budget_of, capacity_of, options_with, both_options, options_of, file_of, job_on, unbudgeted, long_of, solve_command, duals_command, check_command, convert_command, command_of}
-use Rattle.dualoc_cli.specs.Step.{IsSuited}
+use Rattle.dualoc_cli.specs.declared.options.Takes.{Takes}
+use Rattle.dualoc_cli.specs.Command.{Command, OnFile, OnTrial, into_files, Job, SolveShort, SolveLong, ShowDuals, Check, Convert, Session, are_names, budget_of, options_with, given_once, with_option, options_from, options_of, no_budget, a_budget, job_on, on_files, solve_command, duals_command, check_command, convert_command, session_command, plain_count, are_trial_numbers, trial_of, trial_command, command_of}
+use Rattle.dualoc_cli.specs.Step.{IsSuited, IsSound}
 
 -- The capacity that options give is an amount.
 
@@ -27,32 +31,43 @@ capacity_small option = by _ (amount_of (drop 9 option)) (amount_of-small (drop 
 abbrev AreSmall : Option Options → Type 0
 AreSmall options = IfSome options (λ o. IsSmall o.capacity)
 
-one_small : (budget capacity : Option ℕ) → IsSmall capacity → AreSmall (option_or (option_map (λ n. options_with (Some n) None) budget) (option_map (λ a. options_with None (Some a)) capacity))
-one_small (Some n) capacity small = tt
-one_small None (Some a) small = small
-one_small None None small = tt
+-- what an option gives is small where it is
+once_small : (taken : Bool) (before given : Option ℕ) → IsSmall given → IsSmall (given_once taken before given)
+once_small true None given small = small
+once_small true (Some n) given small = tt
+once_small false before given small = tt
 
-both_small : (budget capacity : Option ℕ) → IsSmall capacity → AreSmall (both_options budget capacity)
-both_small None capacity small = tt
-both_small (Some n) None small = tt
-both_small (Some n) (Some a) small = small
+budgeted_small : (budget capacity : Option ℕ) → IsSmall capacity → AreSmall (option_map (λ n. options_with (Some n) capacity) budget)
+budgeted_small None capacity small = tt
+budgeted_small (Some n) capacity small = small
+
+capped_small : (capacity budget : Option ℕ) → IsSmall capacity → AreSmall (option_map (λ a. options_with budget (Some a)) capacity)
+capped_small None budget small = tt
+capped_small (Some a) budget small = small
 
 either_small : (one other : Option Options) → AreSmall one → AreSmall other → AreSmall (option_or one other)
 either_small None other h k = k
 either_small (Some o) other h k = h
 
-options_small : (words : List (List ℕ)) → AreSmall (options_of words)
-unfolding options_of
-options_small [] = tt
-options_small (word ∷ []) = one_small (budget_of word) (capacity_of word) (capacity_small word)
-options_small (one ∷ other ∷ []) =
-    either_small (both_options (budget_of one) (capacity_of other)) (both_options (budget_of other) (capacity_of one)) (both_small (budget_of one) (capacity_of other) (capacity_small other)) (both_small (budget_of other) (capacity_of one) (capacity_small one))
-options_small (a ∷ b ∷ c ∷ rest) = tt
+with_small : (takes : Takes) (word : List ℕ) (old : Options) → IsSmall old.capacity → AreSmall (with_option takes word old)
+with_small takes word old small =
+    either_small _ _ (budgeted_small (given_once takes.budget old.budget (budget_of word)) old.capacity small)
+    (capped_small (given_once true old.capacity (capacity_of word)) old.budget (once_small true old.capacity (capacity_of word) (capacity_small word)))
+
+next_small : (next : Options → Option Options) (more : Option Options) → AreSmall more → ((o : Options) → IsSmall o.capacity → AreSmall (next o)) → AreSmall (option_and_then next more)
+next_small next None small each = tt
+next_small next (Some o) small each = each o small
+
+from_small : (takes : Takes) (old : Options) (words : List (List ℕ)) → IsSmall old.capacity → AreSmall (options_from takes old words)
+unfolding options_from
+from_small takes old [] small = small
+from_small takes old (word ∷ words) small =
+    next_small (λ o. options_from takes o words) (with_option takes word old) (with_small takes word old small) (λ o s. from_small takes o words s)
+
+options_small : (takes : Takes) (words : List (List ℕ)) → AreSmall (options_of takes words)
+options_small takes words = from_small takes (options_with None None) words tt
 
 -- Commands.
-
-abbrev IsSound : Command → Type 0
-IsSound (OnFile file job) = IsSuited file job
 
 abbrev Sound : Option Command → Type 0
 Sound command = IfSome command IsSound
@@ -68,18 +83,6 @@ sound_if false command h = tt
 abbrev IsSmallFile : Option InstanceFile → Type 0
 IsSmallFile file = IfSome file (λ f. IsSmall f.given)
 
-named_small : (form : Option FileForm) (name : List ℕ) → IsSmallFile (option_map (λ f. instance_file f name None) form)
-named_small None name = tt
-named_small (Some form) name = tt
-
-given_small : (is_cap : Bool) (name : List ℕ) (capacity : ℕ) → IsSmall (Some capacity) → IsSmallFile (if is_cap then Some (instance_file Cap name (Some capacity)) else None)
-given_small true name capacity small = small
-given_small false name capacity small = tt
-
-file_small : (form name : List ℕ) (given : Option ℕ) → IsSmall given → IsSmallFile (file_of form name given)
-file_small form name None small = named_small (form_of form) name
-file_small form name (Some capacity) small = given_small (bytes_eq form (codes "cap")) name capacity small
-
 on_sound : (file : Option InstanceFile) (job : Job) → (job ≡ SolveShort → ⊥) → IsSmallFile file → Sound (option_map (λ f. OnFile f job) file)
 on_sound None job other small = tt
 on_sound (Some file) job other small = record { small = small; short = λ same. absurd (other same) }
@@ -87,18 +90,15 @@ on_sound (Some file) job other small = record { small = small; short = λ same. 
 job_sound : (form name : List ℕ) (job : Job) (given : Option ℕ) → (job ≡ SolveShort → ⊥) → IsSmall given → Sound (job_on form name job given)
 job_sound form name job given other small = on_sound (file_of form name given) job other (file_small form name given small)
 
-unbudgeted_sound : (form name : List ℕ) (job : Job) (options : Option Options) → (job ≡ SolveShort → ⊥) → AreSmall options → Sound (option_and_then (unbudgeted form name job) options)
-unfolding unbudgeted
-unbudgeted_sound form name job None other small = tt
-unbudgeted_sound form name job (Some o) other small = sound_if (is_none o.budget) (job_on form name job o.capacity) (job_sound form name job o.capacity other small)
+options_sound : (form name : List ℕ) (job : Options → Job) (options : Option Options) → ((o : Options) → job o ≡ SolveShort → ⊥) → AreSmall options
+    → Sound (option_and_then (λ o. job_on form name (job o) o.capacity) options)
+options_sound form name job None other small = tt
+options_sound form name job (Some o) other small = job_sound form name (job o) o.capacity (other o) small
 
-searched_sound : (form name : List ℕ) (into : ResultFiles) (options : Option Options) → AreSmall options → Sound (option_and_then (λ o. job_on form name (SolveLong into o.budget) o.capacity) options)
-searched_sound form name into None small = tt
-searched_sound form name into (Some o) small = job_sound form name (SolveLong into o.budget) o.capacity (λ same. cc) small
-
-long_sound : (form name : List ℕ) (into : ResultFiles) (options : Option Options) → AreSmall options → Sound (long_of form name into options)
-unfolding long_of
-long_sound form name into options small = sound_if (are_names (name ∷ into.plan ∷ into.certificate ∷ [])) _ (searched_sound form name into options small)
+files_sound : (form name : List ℕ) (others : List (List ℕ)) (takes : Takes) (job : Options → Job) (words : List (List ℕ)) → ((o : Options) → job o ≡ SolveShort → ⊥)
+    → Sound (on_files form name others takes job words)
+files_sound form name others takes job words other =
+    sound_if (are_names (name ∷ others)) _ (options_sound form name job (options_of takes words) other (options_small takes words))
 
 short_sound : (named : Bool) (name : List ℕ) → Sound (if named then Some (OnFile (instance_file Ufl name None) SolveShort) else None)
 short_sound true name = record { small = tt; short = λ same. refl }
@@ -110,36 +110,74 @@ solve_sound [] = tt
 solve_sound (a ∷ []) = tt
 solve_sound (form ∷ name ∷ []) = short_sound _ name
 solve_sound (a ∷ b ∷ c ∷ []) = tt
-solve_sound (form ∷ name ∷ plan ∷ certificate ∷ options) = long_sound form name (into_files plan certificate) (options_of options) (options_small options)
+solve_sound (form ∷ name ∷ plan ∷ certificate ∷ options) =
+    files_sound form name (plan ∷ certificate ∷ []) a_budget (λ o. SolveLong (into_files plan certificate) o.budget) options (λ o same. cc)
 
 duals_sound : (words : List (List ℕ)) → Sound (duals_command words)
 unfolding duals_command
 duals_sound [] = tt
 duals_sound (a ∷ []) = tt
-duals_sound (form ∷ name ∷ options) = sound_if (are_names (name ∷ [])) _ (unbudgeted_sound form name ShowDuals (options_of options) (λ same. cc) (options_small options))
+duals_sound (form ∷ name ∷ options) = files_sound form name [] no_budget (λ o. ShowDuals) options (λ o same. cc)
 
 check_sound : (words : List (List ℕ)) → Sound (check_command words)
 unfolding check_command
 check_sound [] = tt
 check_sound (a ∷ []) = tt
 check_sound (a ∷ b ∷ []) = tt
-check_sound (form ∷ name ∷ certificate ∷ options) =
-    sound_if (are_names (name ∷ certificate ∷ [])) _ (unbudgeted_sound form name (Check certificate) (options_of options) (λ same. cc) (options_small options))
+check_sound (form ∷ name ∷ certificate ∷ options) = files_sound form name (certificate ∷ []) no_budget (λ o. Check certificate) options (λ o same. cc)
 
 convert_sound : (words : List (List ℕ)) → Sound (convert_command words)
 unfolding convert_command
 convert_sound [] = tt
 convert_sound (a ∷ []) = tt
 convert_sound (a ∷ b ∷ []) = tt
-convert_sound (form ∷ name ∷ new ∷ options) =
-    sound_if (are_names (name ∷ new ∷ [])) _ (unbudgeted_sound form name (Convert new) (options_of options) (λ same. cc) (options_small options))
+convert_sound (form ∷ name ∷ new ∷ options) = files_sound form name (new ∷ []) no_budget (λ o. Convert new) options (λ o same. cc)
+
+session_sound : (words : List (List ℕ)) → Sound (session_command words)
+unfolding session_command
+session_sound [] = tt
+session_sound (a ∷ []) = tt
+session_sound (form ∷ name ∷ options) = files_sound form name [] no_budget (λ o. Session) options (λ o same. cc)
+
+-- the numbers of a trial are within the limits
+trial_sizes : (seed m n : ℕ) → are_trial_numbers seed m n ≡ true → AreSizes m n
+trial_sizes seed m n numbers = record {
+  some_site = grind (arith, nat_tests);
+  few_sites = grind (arith, nat_tests);
+  some_customer = grind (arith, nat_tests);
+  few_customers = grind (arith, nat_tests);
+  few_lanes = grind (arith, nat_tests);
+}
+
+sizes_sound : (within : Bool) (seed m n : ℕ) → (within ≡ true → AreSizes m n) → Sound (if within then Some (OnTrial seed m n) else None)
+sizes_sound true seed m n sizes = sizes refl
+sizes_sound false seed m n sizes = tt
+
+numbers_sound : (seed m n : Option ℕ) → Sound (option_and_then (λ s. option_and_then (λ sites. option_and_then (λ customers. trial_of s sites customers) n) m) seed)
+numbers_sound None m n = tt
+numbers_sound (Some s) None n = tt
+numbers_sound (Some s) (Some sites) None = tt
+numbers_sound (Some s) (Some sites) (Some customers) = sizes_sound (are_trial_numbers s sites customers) s sites customers (trial_sizes s sites customers)
+
+trial_sound : (words : List (List ℕ)) → Sound (trial_command words)
+unfolding trial_command
+trial_sound [] = tt
+trial_sound (a ∷ []) = tt
+trial_sound (a ∷ b ∷ []) = tt
+trial_sound (seed ∷ m ∷ n ∷ []) = numbers_sound (plain_count seed) (plain_count m) (plain_count n)
+trial_sound (a ∷ b ∷ c ∷ d ∷ rest) = tt
 
 command_sound : (words : List (List ℕ)) → Sound (command_of words)
 command_sound [] = tt
 command_sound (verb ∷ words) =
     either_sound (bytes_eq verb (codes "solve")) (solve_command words) _ (solve_sound words)
     (either_sound (bytes_eq verb (codes "duals")) (duals_command words) _ (duals_sound words)
-    (either_sound (bytes_eq verb (codes "check")) (check_command words) _ (check_sound words) (sound_if (bytes_eq verb (codes "convert")) (convert_command words) (convert_sound words))))
+    (either_sound (bytes_eq verb (codes "check")) (check_command words) _ (check_sound words)
+    (either_sound (bytes_eq verb (codes "convert")) (convert_command words) _ (convert_sound words) (either_sound (bytes_eq verb (codes "session")) (session_command words) _ (session_sound words)
+    (sound_if (bytes_eq verb (codes "trial")) (trial_command words) (trial_sound words))))))
+
+pub sound : (words : List (List ℕ)) (command : Command) → command_of words ≡ Some command → IsSound command
+sound words command e = subst Sound e (command_sound words)
 
 pub suited : (words : List (List ℕ)) (file : InstanceFile) (job : Job) → command_of words ≡ Some (OnFile file job) → IsSuited file job
-suited words file job e = subst Sound e (command_sound words)
+suited words file job e = sound words (OnFile file job) e

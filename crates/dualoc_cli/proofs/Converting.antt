@@ -8,7 +8,8 @@ use Rattle.instance_text.specs.OwnText.{own_text}
 use Rattle.instance_text.proofs.ReadBack.{own_text_means}
 use Rattle.instance_text.proofs.Lengths.{own_text_short}
 use Rattle.dualoc_cli.specs.Command.{Convert}
-use Rattle.dualoc_cli.specs.Due.{Run, HasTask, IsConverted, HasNewBegun, IsUnconverted}
+use Rattle.dualoc_cli.specs.Run.{Run, HasTask}
+use Rattle.dualoc_cli.specs.Convert.{IsConverted, HasNewBegun, IsUnconverted}
 use Rattle.dualoc_cli.specs.Step.{Covers}
 use Rattle.dualoc_cli.proofs.Causes.{rose_over, task_valid}
 

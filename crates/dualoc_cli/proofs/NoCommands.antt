@@ -1,21 +1,11 @@
 -- Words of a length that no command has.
-use Rattle.std.proofs.Common.{◌≡◌, ℕ, ◌<◌, ◌≤◌, List, [], ◌∷◌, map, length, None, refl, arith}
+use Rattle.std.proofs.Common.{◌≡◌, ℕ, ◌<◌, List, [], ◌∷◌, map, length, None, refl, arith}
 use Rattle.std.proofs.lemmas.List.{length-map}
-use Rattle.dualoc_cli.specs.Command.{options_of, solve_command, duals_command, check_command, convert_command}
+use Rattle.dualoc_cli.specs.Command.{solve_command, duals_command, check_command, convert_command, session_command}
 
 module _ {X : Type 0} (f : X → List ℕ) (words : List X) where
-  many : (n : ℕ) → n ≤ length words → n ≤ length (map f words)
-  many n h = omega (arith, h, length-map words f)
-
   few : (n : ℕ) → length words < n → length (map f words) < n
   few n h = omega (arith, h, length-map words f)
-
-none_of_many : (words : List (List ℕ)) → 3 ≤ length words → None ≡ options_of words
-unfolding options_of
-none_of_many [] h = absurd (omega (arith, h))
-none_of_many (a ∷ []) h = absurd (omega (arith, h))
-none_of_many (a ∷ b ∷ []) h = absurd (omega (arith, h))
-none_of_many (a ∷ b ∷ c ∷ rest) h = refl
 
 none_of_few : (words : List (List ℕ)) → length words < 4 → (length words ≡ 2 → ⊥) → None ≡ solve_command words
 unfolding solve_command
@@ -31,6 +21,12 @@ none_of_one [] h = refl
 none_of_one (a ∷ []) h = refl
 none_of_one (a ∷ b ∷ rest) h = absurd (omega (arith, h))
 
+none_of_one_name : (words : List (List ℕ)) → length words < 2 → None ≡ session_command words
+unfolding session_command
+none_of_one_name [] h = refl
+none_of_one_name (a ∷ []) h = refl
+none_of_one_name (a ∷ b ∷ rest) h = absurd (omega (arith, h))
+
 none_of_two : (words : List (List ℕ)) → length words < 3 → None ≡ check_command words
 unfolding check_command
 none_of_two [] h = refl
@@ -45,9 +41,6 @@ none_of_two_names (a ∷ []) h = refl
 none_of_two_names (a ∷ b ∷ []) h = refl
 none_of_two_names (a ∷ b ∷ c ∷ rest) h = absurd (omega (arith, h))
 
-pub no_options : {X : Type 0} (f : X → List ℕ) (words : List X) → 3 ≤ length words → None ≡ options_of (map f words)
-no_options f words h = none_of_many (map f words) (many f words 3 h)
-
 pub no_solve : {X : Type 0} (f : X → List ℕ) (words : List X) → length words < 4 → (length words ≡ 2 → ⊥) → None ≡ solve_command (map f words)
 no_solve f words h other = none_of_few (map f words) (few f words 4 h) (λ two. let same : length words ≡ 2 = omega (arith, two, length-map words f) in other same)
 
@@ -59,3 +52,6 @@ no_check f words h = none_of_two (map f words) (few f words 3 h)
 
 pub no_convert : {X : Type 0} (f : X → List ℕ) (words : List X) → length words < 3 → None ≡ convert_command (map f words)
 no_convert f words h = none_of_two_names (map f words) (few f words 3 h)
+
+pub no_session : {X : Type 0} (f : X → List ℕ) (words : List X) → length words < 2 → None ≡ session_command (map f words)
+no_session f words h = none_of_one_name (map f words) (few f words 2 h)

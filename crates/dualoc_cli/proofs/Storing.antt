@@ -13,7 +13,8 @@ use Rattle.location_terms.specs.Certificate.{Certificate}
 use Rattle.report.specs.PlanText.{plan_text_of}
 use Rattle.certificate_lines.specs.Text.{certificate_text}
 use Rattle.dualoc_cli.specs.Command.{ResultFiles}
-use Rattle.dualoc_cli.specs.Due.{Run, HasSearch, IsFound, HasResult, IsSearched, IsUnwritten, HasBegun, IsPlanBegun, IsCertificateBegun}
+use Rattle.dualoc_cli.specs.Run.{Run}
+use Rattle.dualoc_cli.specs.Search.{HasSearch, IsFound, HasResult, IsSearched, IsUnwritten, HasBegun, IsPlanBegun, IsCertificateBegun}
 use Rattle.dualoc_cli.specs.Step.{Covers}
 use Rattle.dualoc_cli.proofs.Causes.{rose_over}
 use Rattle.dualoc_cli.proofs.Apart.{apart}

@@ -1,295 +1,99 @@
--- The contract of `run` is `Runs`, at the end of this page: each reply has its cause, the run ends with a reply, or for want of
--- memory, and the output gained its text. What a file holds is said as far as the shelf tells it: of a shelf that tells nothing,
--- as the host's, only that there are such bytes. A count that rose is one that is greater or stands at the last value of its counter.
-use Rattle.std.specs.Prelude.{◌≡◌, ◌⊎◌, ℕ, ◌+◌, ◌^◌, ◌<◌, ◌≤◌, List, [], length, take, Option, None, Some, Ok, Err, codes, pos, ◌≤ℤ◌}
-use Rattle.shelf_port.specs.Files.{Files, MayHold, LeavesPrefix, with_file, Rose}
+-- The contract of `run` is `Runs`, at the end of this page: each reply has its cause, the run ends with a reply, for want of
+-- memory, or within a session's replies in a row, and the output gained the text that is due. What stands here goes by the command; each command's own part is on a page of its own: `Solve`,
+-- `Search`, `Duals`, `Check`, `Convert`, `Session` and `Trial`.
+use Rattle.std.specs.Prelude.{◌≡◌, ◌⊎◌, ℕ, ◌<◌, ◌≤◌, List, [], ◌++◌, length, take, Option, None, Some, Ok, Err, codes}
+use Rattle.shelf_port.specs.Files.{Files, Rose}
 use Rattle.shelf_port.specs.Streams.{with_back, RefusedLast}
-use Rattle.shelf_port.specs.Ports.{Ports, SinkState}
+use Rattle.shelf_port.specs.Ports.{SinkState}
 use Rattle.location_terms.specs.Instance.{Instance}
-use Rattle.location_terms.specs.Plan.{Plan, IsFeasible, cost_of}
-use Rattle.location_terms.specs.Optimal.{IsOptimal, ClaimHolds}
-use Rattle.location_terms.specs.Bound.{Duals, v_at, slack_of, bound_of}
-use Rattle.location_terms.specs.Certificate.{Certificate, IsAccepted}
-use Rattle.location_terms.specs.Tree.{Tree, nodes_of}
-use Rattle.location_terms.specs.declared.claim.Claim.{Claim}
-use Rattle.location_terms.specs.declared.claim.Claim.TheVariants as claimed
-use Rattle.fixed_cost.specs.declared.fault.FileFault.{FileFault}
 use Rattle.set_walk.specs.declared.TheConstants.{MAX_WALK_SITES}
-use Rattle.dual_value.specs.Zeros.{zeros}
-use Rattle.dual_ascent.specs.Ascent.{IsAscended, IsBlocked}
-use Rattle.branch_tree.specs.Made.{leaf_of}
-use Rattle.tree_search.specs.Grown.{IsGrownFrom, PlansWereSought}
-use Rattle.tree_search.specs.Answer.{IsBracketCause, most_decisions}
 use Rattle.tree_search.specs.Budget.{max_budget, budget_in}
-use Rattle.report.specs.PlanText.{plan_text_of}
-use Rattle.instance_text.specs.Own.{own_meaning}
-use Rattle.instance_text.specs.OwnText.{own_text}
-use Rattle.certificate_lines.specs.Text.{certificate_text}
-use Rattle.certificate_lines.specs.Follow.{HasSmallCosts}
-use Rattle.certificate_lines.specs.declared.limits.TheConstants.{MAX_CERTIFICATE_BYTES}
+use Rattle.whatif_session.specs.Input.{session_limits}
+use Rattle.whatif_session.specs.Run.{Stop, AtEnd, AtLongLine, AtLongInput, AtFailedRead, AtRefusedWrite, IsDueStop, RepliesLast}
 use Rattle.certificate_lines.specs.declared.fault.CertFault.TheVariants.{Text, TooLong}
 use Rattle.certificate_check.specs.declared.verdict.Verdict.TheVariants.{Yes, No}
-use Rattle.certificate_check.specs.Verdict.{Answer, IsAnswer}
-use Rattle.fixed_cost.specs.declared.limits.TheConstants.{MAX_INSTANCE_BYTES}
 use Rattle.dualoc_cli.specs.declared.status.Status.{Status}
 use Rattle.dualoc_cli.specs.declared.status.Status.TheVariants.{Done, Infeasible, Bracket, CheckNo, Usage, BadInput, ReadFault, WriteFault, TooLarge, NoMemory}
 use Rattle.dualoc_cli.specs.declared.reply.Reply.{Reply}
-use Rattle.dualoc_cli.specs.declared.reply.Reply.TheVariants.{NoCommand, InstanceUnread, LongInstance, Faulty, ManySites, Optimum, LargeBudget, Unwritten, Searched, Ascent, CertificateUnread, LongCertificate, Misspelt, Judged, Converted, Unconverted}
-use Rattle.dualoc_cli.specs.Command.{Command, OnFile, InstanceFile, ResultFiles, Job, SolveShort, SolveLong, ShowDuals, Check, Convert, command_of, meaning_in}
+use Rattle.dualoc_cli.specs.declared.reply.Reply.TheVariants.{NoCommand, Failed, Refused, Reached}
+use Rattle.dualoc_cli.specs.declared.reply.Port.{Port}
+use Rattle.dualoc_cli.specs.declared.reply.Port.TheVariants as port
+use Rattle.dualoc_cli.specs.declared.reply.Refusal.{Refusal}
+use Rattle.dualoc_cli.specs.declared.reply.Refusal.TheVariants.{LongInstance, Faulty, ManySites, LargeBudget, LongCertificate, LongLine, LongInput}
+use Rattle.dualoc_cli.specs.declared.reply.Outcome.{Outcome}
+use Rattle.dualoc_cli.specs.declared.reply.Outcome.TheVariants.{Optimum, Searched, Tried, Ascent, Misspelt, Judged, Converted, Ended}
+use Rattle.dualoc_cli.specs.Command.{Command, OnFile, OnTrial, Job, SolveShort, SolveLong, ShowDuals, Check, Convert, Session, command_of}
 use Rattle.dualoc_cli.specs.Status.{when_cut}
-use Rattle.dualoc_cli.specs.Reply.{status_of, text_of}
-
--- the words of a run, and what its ports tell and count at its start and at its end
-pub record Run : Type 0 where
-  pub words : List (List ℕ)
-  pub before : Ports
-  pub after : Ports
-
-abbrev pub run_of : List (List ℕ) → Ports → Ports → Run
-run_of words before after = record { words = words; before = before; after = after }
+use Rattle.dualoc_cli.specs.Reply.{failed_status, status_of, text_of}
+use Rattle.dualoc_cli.specs.Run.{Run, ChangesNoFile, LeavesInput, InstanceFails, IsTooLong, HasFileFault, HasTask}
+use Rattle.dualoc_cli.specs.Solve.{HasManySites, IsSolved}
+use Rattle.dualoc_cli.specs.Search.{HasLargeBudget, IsUnwritten, IsSearched, HasBegun, EndsSearch}
+use Rattle.dualoc_cli.specs.Duals.{IsRaised}
+use Rattle.dualoc_cli.specs.Check.{CertificateFails, IsAnswered, IsConfirmed, IsChecked}
+use Rattle.dualoc_cli.specs.Convert.{IsUnconverted, IsConverted, HasNewBegun}
+use Rattle.dualoc_cli.specs.Session.{IsSessionRow, StopsAt, HoldsSession, stop_of, stop_status}
+use Rattle.dualoc_cli.specs.Trial.{HasTrial, IsTrialAnswer, EndsTrial}
 
 -- The causes.
 
--- the count of failed reads of the named file rose
-abbrev pub FailsToRead : Run → List ℕ → Type 0
-FailsToRead r name = Rose (r.before.shelf.reads name) (r.after.shelf.reads name)
+-- a read or a write of a file failed, or a read of the input
+abbrev pub PortFails : Run → Port → Type 0
+PortFails r port.Instance = InstanceFails r
+PortFails r port.Certificate = CertificateFails r
+PortFails r port.Result = IsUnwritten r
+PortFails r port.New = IsUnconverted r
+PortFails r port.Input = StopsAt r AtFailedRead
 
--- the count of failed writes of the named file rose
-abbrev pub FailsToWrite : Run → List ℕ → Type 0
-FailsToWrite r name = Rose (r.before.shelf.writes name) (r.after.shelf.writes name)
+-- the instance, what is asked of it, or the input is refused
+abbrev pub IsRefused : Run → Refusal → Type 0
+IsRefused r LongInstance = IsTooLong r
+IsRefused r (Faulty fault) = HasFileFault r fault
+IsRefused r ManySites = HasManySites r
+IsRefused r LargeBudget = HasLargeBudget r
+IsRefused r LongCertificate = IsAnswered r (Err TooLong)
+IsRefused r LongLine = StopsAt r AtLongLine
+IsRefused r LongInput = StopsAt r AtLongInput
 
--- the words ask for this job on this file, which holds these bytes, as far as the shelf tells
-pub record AsksFor (r : Run) (file : InstanceFile) (job : Job) (bytes : List ℕ) : Type 0 where
-  pub words_are : command_of r.words ≡ Some (OnFile file job)
-  pub held : MayHold r.before.shelf.files file.name bytes
-
--- a read of the instance's file failed
-pub record InstanceFails (r : Run) : Type 0 where
-  pub file : InstanceFile
-  pub job : Job
-  pub words_are : command_of r.words ≡ Some (OnFile file job)
-  pub fails : FailsToRead r file.name
-
--- the instance's file is longer than the limit
-pub record IsTooLong (r : Run) : Type 0 where
-  pub file : InstanceFile
-  pub job : Job
-  pub bytes : List ℕ
-  pub asked : AsksFor r file job bytes
-  pub beyond : MAX_INSTANCE_BYTES < length bytes
-
--- this is the first fault of the instance's file
-pub record HasFileFault (r : Run) (fault : FileFault) : Type 0 where
-  pub file : InstanceFile
-  pub job : Job
-  pub bytes : List ℕ
-  pub asked : AsksFor r file job bytes
-  pub within : length bytes ≤ MAX_INSTANCE_BYTES
-  pub means : meaning_in file bytes ≡ Err fault
-
--- the words ask for this job on this instance: it is what the bytes of the file that they name mean
-pub record HasTask (r : Run) (job : Job) (I : Instance) : Type 0 where
-  pub file : InstanceFile
-  pub bytes : List ℕ
-  pub asked : AsksFor r file job bytes
-  pub within : length bytes ≤ MAX_INSTANCE_BYTES
-  pub means : meaning_in file bytes ≡ Ok I
-
--- an instance that is to be solved has more sites than the walk over all sets of sites takes
-pub record HasManySites (r : Run) : Type 0 where
-  pub instance : Instance
-  pub task : HasTask r SolveShort instance
-  pub many : MAX_WALK_SITES < length instance.sites
-
--- the plan is optimal for the instance that is to be solved, and this is its cost
-pub record IsSolved (r : Run) (I : Instance) (P : Plan) (cost : ℕ) : Type 0 where
-  pub task : HasTask r SolveShort I
-  pub few : length I.sites ≤ MAX_WALK_SITES
-  pub optimal : IsOptimal I P
-  pub costs : cost ≡ cost_of I P
-
--- the certificate is accepted, its costs are within their limit and its text is within the checker's: so a check of a file with that text says yes (`complete`, below)
-pub record DeservesYes (I : Instance) (cert : Certificate) : Type 0 where
-  pub accepted : IsAccepted I cert
-  pub small : HasSmallCosts cert.claim
-  pub within : length (certificate_text I cert) ≤ MAX_CERTIFICATE_BYTES
-
--- an instance is to be solved with a budget past its greatest
-pub record HasLargeBudget (r : Run) : Type 0 where
-  pub instance : Instance
-  pub into : ResultFiles
-  pub budget : ℕ
-  pub task : HasTask r (SolveLong into (Some budget)) instance
-  pub large : max_budget instance < budget
-
--- the instance is to be solved with this budget, and the result to be left in these files
-pub record HasSearch (r : Run) (into : ResultFiles) (I : Instance) (budget : ℕ) : Type 0 where
-  pub given : Option ℕ
-  pub task : HasTask r (SolveLong into given) I
-  pub in_force : budget ≡ budget_in I given
-  pub within : budget ≤ max_budget I
-
--- a search ends with a bracket only for the cause that the search itself names: its budget is spent, and a leaf is open; made is how many nodes its splits made
-abbrev pub IsEnd : Instance → ℕ → Claim → Option Plan → Tree → ℕ → Type 0
-IsEnd I budget (claimed.Optimal cost) plan tree made = Unit {0}
-IsEnd I budget claimed.Infeasible plan tree made = Unit {0}
-IsEnd I budget (claimed.Bracket low high) plan tree made = IsBracketCause I budget low plan tree made
-
--- What a search of the instance with this budget comes to: a certificate of its claim, with its plan and its tree. The claim holds, and the checker says yes to the
--- certificate's text. The tree grew from one leaf of zeros, without a plan to begin with; all nodes but the first were made by splits, no more than the budget; and the plan
--- costs no more than those that packing gives at its leaves. So where a bracket is without a plan, packing gave none at any leaf of scale 1 or more.
-pub record IsFound (I : Instance) (budget : ℕ) (cert : Certificate) : Type 0 where
-  pub holds : ClaimHolds I cert.claim cert.plan
-  pub deserved : DeservesYes I cert
-  pub grown : IsGrownFrom I None (leaf_of I (zeros I 1)) cert.tree
-  pub made : ℕ
-  pub nodes_are : nodes_of cert.tree ≡ 1 + made
-  pub within : made ≤ budget
-  pub sought : PlansWereSought I cert.tree cert.plan
-  pub end : IsEnd I budget cert.claim cert.plan cert.tree made
-
--- a search that the words ask for comes to this
-pub record HasResult (r : Run) (into : ResultFiles) (I : Instance) (budget : ℕ) (cert : Certificate) : Type 0 where
-  pub asked : HasSearch r into I budget
-  pub found : IsFound I budget cert
-
--- A search came to this claim, with a tree of so many nodes, and both files hold their whole texts. A certificate's text is that of no other certificate (the law
--- `one_text` of certificate_text), so the tree is the one that the file spells.
-pub record IsSearched (r : Run) (claim : Claim) (nodes budget : ℕ) : Type 0 where
-  pub into : ResultFiles
-  pub instance : Instance
-  pub cert : Certificate
-  pub result : HasResult r into instance budget cert
-  pub claims : cert.claim ≡ claim
-  pub nodes_are : nodes_of cert.tree ≡ nodes
-  pub plan_held : MayHold r.after.shelf.files into.plan (plan_text_of instance claim cert.plan)
-  pub certificate_held : MayHold r.after.shelf.files into.certificate (certificate_text instance cert)
-
--- the files are as at the start, but that of the plan may hold a front of its text
-abbrev pub IsPlanBegun : Run → ResultFiles → Instance → Certificate → Type 0
-IsPlanBegun r into I cert = LeavesPrefix r.before.shelf.files r.after.shelf.files into.plan (plan_text_of I cert.claim cert.plan)
-
--- that of the plan holds its text, and else the files are as at the start, but that of the certificate may hold a front of its text
-abbrev pub IsCertificateBegun : Run → ResultFiles → Instance → Certificate → Type 0
-IsCertificateBegun r into I cert =
-    LeavesPrefix (with_file r.before.shelf.files into.plan (plan_text_of I cert.claim cert.plan)) r.after.shelf.files into.certificate (certificate_text I cert)
-
--- what a search came to was to be left, and a write of the plan's file failed, or one of the certificate's file behind the whole plan
-pub record IsUnwritten (r : Run) : Type 0 where
-  pub into : ResultFiles
-  pub instance : Instance
-  pub budget : ℕ
-  pub cert : Certificate
-  pub result : HasResult r into instance budget cert
-  pub stopped : (FailsToWrite r into.plan × IsPlanBegun r into instance cert) ⊎ (FailsToWrite r into.certificate × IsCertificateBegun r into instance cert)
-
--- The duals are those to which the ascent raises zeros, at scale 1 and where nothing is decided yet, of the instance whose duals are asked for.
--- There is just one such ascent (the law `ascents` of dual_ascent), so this says what each number of their text is. What follows is said beside it:
--- raising one customer's dual alone gains nothing, no number is below 0, and no feasible plan costs less than the bound.
-pub record IsRaised (r : Run) (I : Instance) (d : Duals) : Type 0 where
-  pub task : HasTask r ShowDuals I
-  pub ascended : IsAscended I [] (zeros I 1) d
-  pub blocked : IsBlocked I [] d
-  pub values : (j : ℕ) → j < length I.customers → pos 0 ≤ℤ v_at d j
-  pub slacks : (i : ℕ) → i < length I.sites → pos 0 ≤ℤ slack_of I [] d i
-  pub bound : pos 0 ≤ℤ bound_of I [] d
-  pub low_end : (P : Plan) → IsFeasible I P → bound_of I [] d ≤ℤ pos (cost_of I P)
-
--- the instance was read, and then a read of the certificate's file failed
-pub record CertificateFails (r : Run) : Type 0 where
-  pub instance : Instance
-  pub name : List ℕ
-  pub task : HasTask r (Check name) instance
-  pub fails : FailsToRead r name
-
--- this is the checker's answer to what the certificate's file holds
-pub record IsAnswered (r : Run) (answer : Answer) : Type 0 where
-  pub instance : Instance
-  pub name : List ℕ
-  pub task : HasTask r (Check name) instance
-  pub bytes : List ℕ
-  pub held : MayHold r.before.shelf.files name bytes
-  pub answered : IsAnswer MAX_CERTIFICATE_BYTES instance bytes answer
-
--- the certificate's file holds the text of an accepted certificate of this claim, and the claim holds
-pub record IsConfirmed (r : Run) (claim : Claim) : Type 0 where
-  pub instance : Instance
-  pub name : List ℕ
-  pub task : HasTask r (Check name) instance
-  pub cert : Certificate
-  pub held : MayHold r.before.shelf.files name (certificate_text instance cert)
-  pub deserved : DeservesYes instance cert
-  pub claims : cert.claim ≡ claim
-  pub holds : ClaimHolds instance claim cert.plan
-
--- The instance that is to be converted has so many sites and customers, and stands in the new file as its one text in the suite's own form; every other file is as at the start.
--- A file with that text is within the limit, and means this instance in the form `own`.
-pub record IsConverted (r : Run) (m n : ℕ) : Type 0 where
-  pub instance : Instance
-  pub new : List ℕ
-  pub task : HasTask r (Convert new) instance
-  pub sites_are : length instance.sites ≡ m
-  pub customers_are : length instance.customers ≡ n
-  pub written : r.after.shelf.files ≡ with_file r.before.shelf.files new (own_text instance)
-  pub within : length (own_text instance) ≤ MAX_INSTANCE_BYTES
-  pub read_back : own_meaning (own_text instance) ≡ Ok instance
-
--- an instance is to be converted, and the files are as at the start, but the new one may hold a front of the instance's text
-pub record HasNewBegun (r : Run) (new : List ℕ) : Type 0 where
-  pub instance : Instance
-  pub task : HasTask r (Convert new) instance
-  pub left : LeavesPrefix r.before.shelf.files r.after.shelf.files new (own_text instance)
-
--- a write of the new file failed
-pub record IsUnconverted (r : Run) : Type 0 where
-  pub new : List ℕ
-  pub begun : HasNewBegun r new
-  pub fails : FailsToWrite r new
+-- a command came to this
+abbrev pub IsOutcomeOf : Run → Outcome → Type 0
+IsOutcomeOf r (Optimum I P cost) = IsSolved r I P cost
+IsOutcomeOf r (Searched claim nodes budget) = IsSearched r claim nodes budget
+IsOutcomeOf r (Tried claim nodes budget opened) = IsTrialAnswer r claim nodes budget opened
+IsOutcomeOf r (Ascent I d) = IsRaised r I d
+IsOutcomeOf r (Misspelt kind line) = IsAnswered r (Err (Text kind line))
+IsOutcomeOf r (Judged (Yes claim)) = IsConfirmed r claim
+IsOutcomeOf r (Judged (No line why)) = IsAnswered r (Ok (No line why))
+IsOutcomeOf r (Converted m n) = IsConverted r m n
+IsOutcomeOf r Ended = StopsAt r AtEnd
 
 -- what is the case where a run may answer so
 abbrev pub IsCause : Run → Reply → Type 0
 IsCause r NoCommand = command_of r.words ≡ None
-IsCause r InstanceUnread = InstanceFails r
-IsCause r LongInstance = IsTooLong r
-IsCause r (Faulty fault) = HasFileFault r fault
-IsCause r ManySites = HasManySites r
-IsCause r (Optimum I P cost) = IsSolved r I P cost
-IsCause r LargeBudget = HasLargeBudget r
-IsCause r Unwritten = IsUnwritten r
-IsCause r (Searched claim nodes budget) = IsSearched r claim nodes budget
-IsCause r (Ascent I d) = IsRaised r I d
-IsCause r CertificateUnread = CertificateFails r
-IsCause r LongCertificate = IsAnswered r (Err TooLong)
-IsCause r (Misspelt kind line) = IsAnswered r (Err (Text kind line))
-IsCause r (Judged (Yes claim)) = IsConfirmed r claim
-IsCause r (Judged (No line why)) = IsAnswered r (Ok (No line why))
-IsCause r (Converted m n) = IsConverted r m n
-IsCause r Unconverted = IsUnconverted r
+IsCause r (Failed at) = PortFails r at
+IsCause r (Refused refusal) = IsRefused r refusal
+IsCause r (Reached outcome) = IsOutcomeOf r outcome
 
 -- What is printed.
 
--- the output gained the whole text, no call of it was refused, and the run ends with the status that is due
-pub record PrintsWhole (text : List ℕ) (due status : Status) (old new : SinkState) : Type 0 where
-  pub gained : new.written ≡ with_back old.written text
+-- behind the replies in a row, the output gained the whole text, no call of it was refused, and the run ends with the status that is due
+pub record PrintsWhole (row text : List ℕ) (due status : Status) (old new : SinkState) : Type 0 where
+  pub gained : new.written ≡ with_back old.written (row ++ text)
   pub none_refused : new.refusals.count ≡ old.refusals.count
   pub status_is : status ≡ due
 
--- The output refused a call, and nothing was written or tried behind it: it gained a front of the text that isn't all of it.
+-- The output refused a call, and nothing was written or tried behind it: behind the replies in a row it gained a front of the text that isn't all of it.
 -- Where a write failed, a result becomes a write fault, and any other status stays; else memory ran out.
-pub record PrintsFront (text : List ℕ) (due status : Status) (old new : SinkState) : Type 0 where
+pub record PrintsFront (row text : List ℕ) (due status : Status) (old new : SinkState) : Type 0 where
   pub len : ℕ
   pub front : len < length text
-  pub gained : new.written ≡ with_back old.written (take len text)
+  pub gained : new.written ≡ with_back old.written (row ++ take len text)
   pub stopped : RefusedLast old.refusals new.refusals
   pub status_is : (Rose old.faults new.faults × (status ≡ when_cut due)) ⊎ (status ≡ NoMemory)
 
-abbrev pub IsPrinted : List ℕ → Status → Status → SinkState → SinkState → Type 0
-IsPrinted text due status old new = PrintsWhole text due status old new ⊎ PrintsFront text due status old new
+abbrev pub IsPrinted : List ℕ → List ℕ → Status → Status → SinkState → SinkState → Type 0
+IsPrinted row text due status old new = PrintsWhole row text due status old new ⊎ PrintsFront row text due status old new
 
-abbrev pub ChangesNoFile : Run → Type 0
-ChangesNoFile r = r.after.shelf.files ≡ r.before.shelf.files
-
--- the words, the instance or a number of it are refused, or a file can't be read
+-- the words, the instance, the input or a number is refused, or a file or the input can't be read
 abbrev pub IsRefusalStatus : Status → Type 0
 IsRefusalStatus Usage = Unit {0}
 IsRefusalStatus BadInput = Unit {0}
@@ -297,39 +101,81 @@ IsRefusalStatus ReadFault = Unit {0}
 IsRefusalStatus TooLarge = Unit {0}
 IsRefusalStatus status = ⊥
 
--- a run ends with a reply that has its cause
+-- What stands in the output before the last reply: the replies in a row of a session that stopped so, and nothing where no line of the input was read, as in any other command.
+abbrev pub RowBefore : Run → Option Stop → List ℕ → Type 0
+RowBefore r None row = row ≡ []
+RowBefore r (Some stop) row = IsSessionRow r stop row
+
+abbrev pub IsInRow : Run → Reply → List ℕ → Type 0
+IsInRow r reply row = RowBefore r (stop_of reply) row
+
+-- no line of the input was read: nothing is taken from it, and no file is changed where a session was asked for
+abbrev pub ReadsNoLine : Run → Option Command → Type 0
+ReadsNoLine r (Some (OnFile file Session)) = ChangesNoFile r × LeavesInput r
+ReadsNoLine r command = LeavesInput r
+
+-- Where a reply is a refusal, or says that something can't be read, no file is changed at all. A session whose input is at fault may have written files before, as its steps tell.
+abbrev pub UntouchedBefore : Run → Option Stop → Status → Type 0
+UntouchedBefore r None status = (IsRefusalStatus status → ChangesNoFile r) × ReadsNoLine r (command_of r.words)
+UntouchedBefore r (Some stop) status = Unit {0}
+
+abbrev pub IsUntouched : Run → Reply → Type 0
+IsUntouched r reply = UntouchedBefore r (stop_of reply) (status_of reply)
+
+-- a run ends with a reply that has its cause, behind the replies in a row, which were written whole
 pub record EndsWithReply (r : Run) (status : Status) : Type 0 where
   pub reply : Reply
   pub cause : IsCause r reply
-  -- where something is refused, or can't be read, no file is changed at all, whatever the output did
-  pub untouched : IsRefusalStatus (status_of reply) → ChangesNoFile r
-  pub printed : IsPrinted (text_of reply) (status_of reply) status r.before.output r.after.output
+  -- what the reply leaves, whatever the output did
+  pub untouched : IsUntouched r reply
+  pub row : List ℕ
+  pub row_is : IsInRow r reply row
+  pub printed : IsPrinted row (text_of reply) (status_of reply) status r.before.output r.after.output
 
--- a run ends with a reply, or memory ran out before its text was there; the files of a result, or the new one, may then be whole already
+-- Memory ran out before the last reply's text was there, or within a session, behind the replies in a row, which were written whole. The files of a result, or the new one, may then be
+-- whole already.
+pub record EndsWithoutMemory (r : Run) (status : Status) : Type 0 where
+  pub row : List ℕ
+  pub row_is : ((row ≡ []) × ReadsNoLine r (command_of r.words)) ⊎ ((stop : Stop) × IsSessionRow r stop row)
+  pub printed : IsPrinted row (codes "no memory\n") NoMemory status r.before.output r.after.output
+
+-- The output refused a part of a reply in a row, behind those that were written whole. The line of that reply is the last one that was stepped, so no file was written behind it; and
+-- nothing is printed behind it, not the line of the status either.
+pub record EndsInRow (r : Run) (status : Status) : Type 0 where
+  pub done : List ℕ
+  pub reply : List ℕ
+  pub row_is : IsSessionRow r AtRefusedWrite (done ++ reply)
+  pub last : RepliesLast row_is.run.first row_is.run.lines done reply row_is.run.last
+  pub printed : PrintsFront done reply Done status r.before.output r.after.output
+
 abbrev pub Ends : Run → Status → Type 0
-Ends r status = EndsWithReply r status ⊎ IsPrinted (codes "no memory\n") NoMemory status r.before.output r.after.output
+Ends r status = EndsWithReply r status ⊎ (EndsWithoutMemory r status ⊎ EndsInRow r status)
 
 -- What a run leaves as it was.
 
--- what a search came to is written to the files of the result, the plan first, as far as that went
-pub record HasBegun (r : Run) (into : ResultFiles) : Type 0 where
-  pub instance : Instance
-  pub budget : ℕ
-  pub cert : Certificate
-  pub result : HasResult r into instance budget cert
-  pub left : IsPlanBegun r into instance cert ⊎ IsCertificateBegun r into instance cert
-
--- which files a job may change: the long form of `solve` those of its result, a conversion the new one, and any other none
+-- which files a job may change: the long form of `solve` those of its result, a conversion the new one, a session those that its lines write, as its steps tell, and any other none
 abbrev pub KeepsFiles : Run → Job → Type 0
 KeepsFiles r SolveShort = ChangesNoFile r
 KeepsFiles r (SolveLong into given) = ChangesNoFile r ⊎ HasBegun r into
 KeepsFiles r ShowDuals = ChangesNoFile r
 KeepsFiles r (Check certificate) = ChangesNoFile r
 KeepsFiles r (Convert new) = ChangesNoFile r ⊎ HasNewBegun r new
+KeepsFiles r Session = ChangesNoFile r ⊎ HoldsSession r
 
 abbrev pub Leaves : Run → Option Command → Type 0
 Leaves r None = ChangesNoFile r
 Leaves r (Some (OnFile file job)) = KeepsFiles r job
+Leaves r (Some (OnTrial seed m n)) = ChangesNoFile r
+
+-- what a command leaves of the input: all of it, but for a session, which reads it
+abbrev pub KeepsInput : Run → Option Command → Type 0
+KeepsInput r (Some (OnFile file Session)) = LeavesInput r ⊎ HoldsSession r
+KeepsInput r command = LeavesInput r
+
+-- Where a run ends with a refusal, or could not read something, no file is changed at all. A session whose input is at fault may have written files before.
+abbrev pub StaysUntouched : Run → Option Command → Status → Type 0
+StaysUntouched r (Some (OnFile file Session)) status = IsRefusalStatus status → ChangesNoFile r ⊎ HoldsSession r
+StaysUntouched r command status = IsRefusalStatus status → ChangesNoFile r
 
 -- What follows from how a run ends.
 
@@ -345,62 +191,65 @@ IsResult Bracket = Unit {0}
 IsResult CheckNo = Unit {0}
 IsResult status = ⊥
 
--- The words, and what the files hold at the start, settle that this is the reply. They don't settle that a read or a write fails, or which result a search comes to.
+-- The words, and what the files hold at the start, settle that this is the reply. They don't settle that a read or a write fails, which result a search comes to, or how the input ends a
+-- session: `complete` says that of each input that is told.
 abbrev pub IsSettledAtStart : Reply → Type 0
-IsSettledAtStart InstanceUnread = ⊥
-IsSettledAtStart CertificateUnread = ⊥
-IsSettledAtStart Unwritten = ⊥
-IsSettledAtStart Unconverted = ⊥
-IsSettledAtStart (Searched claim nodes budget) = ⊥
+IsSettledAtStart (Failed at) = ⊥
+IsSettledAtStart (Refused LongLine) = ⊥
+IsSettledAtStart (Refused LongInput) = ⊥
+IsSettledAtStart (Reached (Searched claim nodes budget)) = ⊥
+IsSettledAtStart (Reached (Tried claim nodes budget opened)) = ⊥
+IsSettledAtStart (Reached Ended) = ⊥
 IsSettledAtStart reply = Unit {0}
 
--- a run has another status than the one that is due: memory ran out, a read or a write of a file failed, or the output refused a part of the text
+-- a run has another status than the one that is due: memory ran out, a read or a write of a file or a read of the input failed, or the output refused a part of the text, or of a
+-- session's replies in a row
 pub data IsHindered (r : Run) (due status : Status) : Type 0 where
   MemoryRanOut : status ≡ NoMemory → IsHindered r due status
-  InstanceFailed : InstanceFails r → status ≡ ReadFault → IsHindered r due status
-  CertificateFailed : CertificateFails r → status ≡ ReadFault → IsHindered r due status
-  ResultFailed : IsUnwritten r → status ≡ WriteFault → IsHindered r due status
-  NewFailed : IsUnconverted r → status ≡ WriteFault → IsHindered r due status
+  PortFailed : (at : Port) → PortFails r at → status ≡ failed_status at → IsHindered r due status
   OutputFailed : Rose r.before.output.faults r.after.output.faults → status ≡ when_cut due → IsHindered r due status
+  RowRefused : StopsAt r AtRefusedWrite → Rose r.before.output.faults r.after.output.faults → status ≡ WriteFault → IsHindered r due status
 
 abbrev pub EndsAs : Run → Status → Status → Type 0
 EndsAs r due status = (status ≡ due) ⊎ IsHindered r due status
 
--- what is due for a check of the file of this name: yes where it holds the text of an accepted certificate, and else no, but for what follows behind the limit
-pub record IsChecked (r : Run) (name : List ℕ) (I : Instance) (status : Status) : Type 0 where
-  pub accepted : (cert : Certificate) → DeservesYes I cert → MayHold r.before.shelf.files name (certificate_text I cert) → EndsAs r Done status
-  pub otherwise : (bytes : List ℕ) → MayHold r.before.shelf.files name bytes → length bytes ≤ MAX_CERTIFICATE_BYTES → (status ≡ Done) ⊎ EndsAs r CheckNo status
-
--- What is due for a search with this budget: it ends with an optimal plan, shows that there is none, or ends with a bracket, which comes only with a budget that not
--- all ways to take the decisions of its splits fit into. What hinders a run is the same for all three, so it stands with the first.
-abbrev pub EndsSearch : Run → Instance → ℕ → Status → Type 0
-EndsSearch r I budget status = EndsAs r Done status ⊎ ((status ≡ Infeasible) ⊎ ((status ≡ Bracket) × (budget < 2 ^ (most_decisions I + 1))))
+-- what is due for a session whose input is told: it ends as the bytes of the input say, done at their end or by `quit`, and too large where they pass a limit before
+abbrev pub EndsAsInput : (ends : Status → Type 0) → Option (List ℕ) → Type 0
+EndsAsInput ends None = Unit {0}
+EndsAsInput ends (Some bytes) = (stop : Stop) → IsDueStop session_limits bytes stop → ends (stop_status stop)
 
 -- what is due for a job on an instance, where the files are told
 abbrev pub IsComplete : Run → Job → Instance → Status → Type 0
 IsComplete r SolveShort I status = length I.sites ≤ MAX_WALK_SITES → EndsAs r Done status
-IsComplete r (SolveLong into given) I status = budget_in I given ≤ max_budget I → EndsSearch r I (budget_in I given) status
+IsComplete r (SolveLong into given) I status = budget_in I given ≤ max_budget I → EndsSearch (λ due. EndsAs r due status) I (budget_in I given) status
 IsComplete r ShowDuals I status = EndsAs r Done status
-IsComplete r (Check name) I status = IsChecked r name I status
+IsComplete r (Check name) I status = IsChecked r (λ due. EndsAs r due status) name I status
 IsComplete r (Convert new) I status = EndsAs r Done status
+IsComplete r Session I status = EndsAsInput (λ due. EndsAs r due status) r.before.input.left
 
 -- What a run does.
 pub record Runs (r : Run) (status : Status) : Type 0 where
   -- the status has its cause, and the output gained the text that is due with it
   pub ends : Ends r status
-  -- no file is changed but those that the command may change, and these only as it may, also where memory ran out; the input isn't read
+  -- no file is changed but those that the command may change, and these only as it may, also where memory ran out; nothing is taken from the input but what the command takes
   pub leaves : Leaves r (command_of r.words)
-  pub input : r.after.input ≡ r.before.input
-  -- so where something is refused, or can't be read, no file is changed at all
-  pub untouched : IsRefusalStatus status → ChangesNoFile r
+  pub input : KeepsInput r (command_of r.words)
+  -- so where something is refused, or can't be read, no file is changed at all, but by a session
+  pub untouched : StaysUntouched r (command_of r.words) status
   -- So what is printed with the status of a result holds: it is the text of an optimal plan, that of raised duals, the verdict on a certificate, the line
-  -- of a search whose plan and certificate stand in their files, or that of a conversion whose new file stands; and it is all of it. The words settle which of these it is: a
-  -- search's line comes in the long form of `solve` alone, and there no other result does. A front of such a line, too, stands in the output only where both files hold their
-  -- whole texts, by the cause in `ends`; and one of a conversion's line only where the new file does.
-  pub results : IsResult status → (reply : Reply) × IsCause r reply × (status_of reply ≡ status) × (r.after.output.written ≡ with_back r.before.output.written (text_of reply))
+  -- of a search whose plan and certificate stand in their files, that of a conversion whose new file stands, or the replies of a session that came to its end; and it is all of it. The words
+  -- settle which of these it is: a search's line comes in the long form of `solve` and in `trial` alone, and there no other result does. A front of such a line, too, stands in the output only where both
+  -- files hold their whole texts, by the cause in `ends`; and one of a conversion's line only where the new file does. With any status, each reply in a row is that of a step, so what it says
+  -- holds (`SessionStep`).
+  pub results : IsResult status → (reply : Reply) × IsCause r reply × (status_of reply ≡ status) × ((row : List ℕ) × IsInRow r reply row × (r.after.output.written ≡ with_back r.before.output.written (row ++ text_of reply)))
+  -- The output refused no call where the status is that of a result, nor where no write failed and memory didn't run out, also where it tells nothing: then all of the text that is due is in it.
+  pub taken : IsResult status → r.after.output.refusals.count ≡ r.before.output.refusals.count
+  pub unrefused : (Rose r.before.output.faults r.after.output.faults → ⊥) → (status ≡ NoMemory → ⊥) → r.after.output.refusals.count ≡ r.before.output.refusals.count
   -- Words that are no command are answered so.
   pub usage : command_of r.words ≡ None → (status ≡ Usage) ⊎ (status ≡ NoMemory)
   -- Where the files are told, a reply whose cause is there gives the status, unless the run is hindered; a count that rose alone is no reason for a fault.
   pub exact : IsTold r → (reply : Reply) → IsCause r reply → IsSettledAtStart reply → EndsAs r (status_of reply) status
-  -- So an instance of few sites is solved, any instance is searched, has its duals and is converted, and a certificate has its yes or its no.
+  -- So an instance of few sites is solved, any instance is searched, has its duals and is converted, a certificate has its yes or its no, and a session ends as its input says.
   pub complete : IsTold r → (job : Job) (I : Instance) → HasTask r job I → IsComplete r job I status
+  -- A trial ends with a plan.
+  pub tried : IsTold r → (I : Instance) → HasTrial r I → EndsTrial (λ due. EndsAs r due status) I (budget_in I None) status

@@ -1,5 +1,14 @@
+pub mod Check
 pub mod Command
+pub mod Convert
 pub mod Due
+pub mod Duals
 pub mod Reply
+pub mod Run
+pub mod Search
+pub mod Session
+pub mod Solve
 pub mod Status
 pub mod Step
+pub mod Talk
+pub mod Trial

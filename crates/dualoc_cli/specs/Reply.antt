@@ -17,7 +17,15 @@ use Rattle.certificate_check.specs.declared.verdict.Verdict.TheVariants.{Yes, No
 use Rattle.dualoc_cli.specs.declared.status.Status.{Status}
 use Rattle.dualoc_cli.specs.declared.status.Status.TheVariants.{Done, Infeasible, Bracket, CheckNo, Usage, BadInput, ReadFault, WriteFault, TooLarge}
 use Rattle.dualoc_cli.specs.declared.reply.Reply.{Reply}
-use Rattle.dualoc_cli.specs.declared.reply.Reply.TheVariants.{NoCommand, InstanceUnread, LongInstance, Faulty, ManySites, Optimum, LargeBudget, Unwritten, Searched, Ascent, CertificateUnread, LongCertificate, Misspelt, Judged, Converted, Unconverted}
+use Rattle.dualoc_cli.specs.declared.reply.Reply.TheVariants.{NoCommand, Failed, Refused, Reached}
+use Rattle.dualoc_cli.specs.declared.reply.Port.{Port}
+use Rattle.dualoc_cli.specs.declared.reply.Port.TheVariants as port
+use Rattle.dualoc_cli.specs.declared.reply.Refusal.{Refusal}
+use Rattle.dualoc_cli.specs.declared.reply.Refusal.TheVariants.{LongInstance, Faulty, ManySites, LargeBudget, LongCertificate, LongLine, LongInput}
+use Rattle.dualoc_cli.specs.declared.reply.Outcome.{Outcome}
+use Rattle.dualoc_cli.specs.declared.reply.Outcome.TheVariants.{Optimum, Searched, Tried, Ascent, Misspelt, Judged, Converted, Ended}
+
+-- Statuses.
 
 -- the status of what a search came to
 abbrev pub status_of_claim : Claim → Status
@@ -25,24 +33,41 @@ status_of_claim (claims.Optimal cost) = Done
 status_of_claim claims.Infeasible = Infeasible
 status_of_claim (claims.Bracket low high) = Bracket
 
+-- of a file or an input that was to be read, or a file that was to be written
+abbrev pub failed_status : Port → Status
+failed_status port.Instance = ReadFault
+failed_status port.Certificate = ReadFault
+failed_status port.Result = WriteFault
+failed_status port.New = WriteFault
+failed_status port.Input = ReadFault
+
+abbrev pub refused_status : Refusal → Status
+refused_status LongInstance = TooLarge
+refused_status (Faulty fault) = BadInput
+refused_status ManySites = TooLarge
+refused_status LargeBudget = TooLarge
+refused_status LongCertificate = TooLarge
+refused_status LongLine = TooLarge
+refused_status LongInput = TooLarge
+
+abbrev pub outcome_status : Outcome → Status
+outcome_status (Optimum I P cost) = Done
+outcome_status (Searched claim nodes budget) = status_of_claim claim
+outcome_status (Tried claim nodes budget opened) = status_of_claim claim
+outcome_status (Ascent I d) = Done
+outcome_status (Misspelt kind line) = CheckNo
+outcome_status (Judged (Yes claim)) = Done
+outcome_status (Judged (No line why)) = CheckNo
+outcome_status (Converted m n) = Done
+outcome_status Ended = Done
+
 abbrev pub status_of : Reply → Status
 status_of NoCommand = Usage
-status_of InstanceUnread = ReadFault
-status_of LongInstance = TooLarge
-status_of (Faulty fault) = BadInput
-status_of ManySites = TooLarge
-status_of (Optimum I P cost) = Done
-status_of LargeBudget = TooLarge
-status_of Unwritten = WriteFault
-status_of (Searched claim nodes budget) = status_of_claim claim
-status_of (Ascent I d) = Done
-status_of CertificateUnread = ReadFault
-status_of LongCertificate = TooLarge
-status_of (Misspelt kind line) = CheckNo
-status_of (Judged (Yes claim)) = Done
-status_of (Judged (No line why)) = CheckNo
-status_of (Converted m n) = Done
-status_of Unconverted = WriteFault
+status_of (Failed at) = failed_status at
+status_of (Refused refusal) = refused_status refusal
+status_of (Reached outcome) = outcome_status outcome
+
+-- Texts.
 
 -- the line of a no: what speaks against a certificate, with its line
 abbrev pub no_text : ℕ → Why → List ℕ
@@ -59,21 +84,35 @@ spent_text claim budget = []
 abbrev pub result_line : Claim → ℕ → ℕ → List ℕ
 result_line claim nodes budget = claim_text claim ++ codes " nodes " ++ decimal nodes ++ spent_text claim budget ++ codes "\n"
 
+abbrev pub failed_text : Port → List ℕ
+failed_text port.Instance = codes "read fault\n"
+failed_text port.Certificate = codes "read fault\n"
+failed_text port.Result = codes "write fault\n"
+failed_text port.New = codes "write fault\n"
+failed_text port.Input = codes "read fault\n"
+
+abbrev pub refused_text : Refusal → List ℕ
+refused_text LongInstance = codes "too large instance\n"
+refused_text (Faulty fault) = codes "bad input " ++ fault_text fault ++ codes "\n"
+refused_text ManySites = codes "too large sites\n"
+refused_text LargeBudget = codes "too large budget\n"
+refused_text LongCertificate = codes "too large certificate\n"
+refused_text LongLine = codes "too large line\n"
+refused_text LongInput = codes "too large input\n"
+
+abbrev pub outcome_text : Outcome → List ℕ
+outcome_text (Optimum I P cost) = plan_text_of I (Optimal cost) (Some P)
+outcome_text (Searched claim nodes budget) = result_line claim nodes budget
+outcome_text (Tried claim nodes budget opened) = result_line claim nodes budget ++ codes "open " ++ decimal opened ++ codes "\n"
+outcome_text (Ascent I d) = duals_text_of I d
+outcome_text (Misspelt kind line) = codes "no " ++ cert_kind_name kind ++ codes " line " ++ decimal line ++ codes "\n"
+outcome_text (Judged (Yes claim)) = codes "yes " ++ claim_text claim ++ codes "\n"
+outcome_text (Judged (No line why)) = no_text line why
+outcome_text (Converted m n) = codes "converted sites " ++ decimal m ++ codes " customers " ++ decimal n ++ codes "\n"
+outcome_text Ended = []
+
 abbrev pub text_of : Reply → List ℕ
 text_of NoCommand = codes "usage\n"
-text_of InstanceUnread = codes "read fault\n"
-text_of LongInstance = codes "too large instance\n"
-text_of (Faulty fault) = codes "bad input " ++ fault_text fault ++ codes "\n"
-text_of ManySites = codes "too large sites\n"
-text_of (Optimum I P cost) = plan_text_of I (Optimal cost) (Some P)
-text_of LargeBudget = codes "too large budget\n"
-text_of Unwritten = codes "write fault\n"
-text_of (Searched claim nodes budget) = result_line claim nodes budget
-text_of (Ascent I d) = duals_text_of I d
-text_of CertificateUnread = codes "read fault\n"
-text_of LongCertificate = codes "too large certificate\n"
-text_of (Misspelt kind line) = codes "no " ++ cert_kind_name kind ++ codes " line " ++ decimal line ++ codes "\n"
-text_of (Judged (Yes claim)) = codes "yes " ++ claim_text claim ++ codes "\n"
-text_of (Judged (No line why)) = no_text line why
-text_of (Converted m n) = codes "converted sites " ++ decimal m ++ codes " customers " ++ decimal n ++ codes "\n"
-text_of Unconverted = codes "write fault\n"
+text_of (Failed at) = failed_text at
+text_of (Refused refusal) = refused_text refusal
+text_of (Reached outcome) = outcome_text outcome

@@ -1,43 +1,75 @@
 -- For private functions alone: no public contract cites this page.
 -- What the parts of a run say of it.
-use Rattle.std.specs.Prelude.{◌≡◌}
-use Rattle.shelf_port.specs.Files.{NeverFalls}
-use Rattle.shelf_port.specs.Ports.{ShelfState}
+use Rattle.std.specs.Prelude.{◌≡◌, ◌⊎◌, ℕ, ◌<◌, List, [], ◌++◌, length, take}
+use Rattle.shelf_port.specs.Files.{NeverFalls, Rose}
+use Rattle.shelf_port.specs.Streams.{with_back, RefusedLast}
+use Rattle.shelf_port.specs.Ports.{ShelfState, SinkState, Ports}
+use Rattle.shelf_port.specs.declared.fault.SinkFault.{SinkFault}
+use Rattle.shelf_port.specs.declared.fault.SinkFault.TheVariants as sink
+use Rattle.location_terms.specs.Instance.{AreSizes}
 use Rattle.location_terms.specs.Plan.{IsFeasible}
 use Rattle.instance_store.specs.Small.{IsSmall}
 use Rattle.report.specs.DualsText.{ArePrintable}
+use Rattle.instance_forms.specs.declared.form.FileForm.TheVariants.{Ufl}
+use Rattle.instance_forms.specs.Forms.{InstanceFile, file_in}
+use Rattle.dualoc_cli.specs.declared.status.Status.{Status}
+use Rattle.dualoc_cli.specs.declared.status.Status.TheVariants.{WriteFault, NoMemory}
 use Rattle.dualoc_cli.specs.declared.reply.Reply.{Reply}
-use Rattle.dualoc_cli.specs.declared.reply.Reply.TheVariants.{NoCommand, InstanceUnread, LongInstance, Faulty, ManySites, Optimum, LargeBudget, Unwritten, Searched, Ascent, CertificateUnread, LongCertificate, Misspelt, Judged, Converted, Unconverted}
-use Rattle.dualoc_cli.specs.declared.words.FileForm.TheVariants.{Ufl}
+use Rattle.dualoc_cli.specs.declared.reply.Reply.TheVariants.{Reached}
+use Rattle.dualoc_cli.specs.declared.reply.Outcome.{Outcome}
+use Rattle.dualoc_cli.specs.declared.reply.Outcome.TheVariants.{Optimum, Ascent}
 use Rattle.dualoc_cli.specs.declared.words.Command as told
-use Rattle.dualoc_cli.specs.declared.words.InstanceFile as told_file
+use Rattle.dualoc_cli.specs.declared.words.Command.TheVariants as words_in_memory
+use Rattle.dualoc_cli.specs.declared.words.FileJob as told_file_job
+use Rattle.dualoc_cli.specs.declared.words.TrialNumbers as told_numbers
+use Rattle.dualoc_cli.specs.declared.words.Task as told_task
 use Rattle.dualoc_cli.specs.declared.words.Job as told_job
 use Rattle.dualoc_cli.specs.declared.words.ResultFiles as told_result
-use Rattle.dualoc_cli.specs.declared.words.Job.TheVariants as in_memory
-use Rattle.dualoc_cli.specs.Command.{InstanceFile, ResultFiles, into_files, Job, SolveShort, SolveLong, ShowDuals, Check, Convert, Command, OnFile}
-use Rattle.dualoc_cli.specs.Due.{Run}
+use Rattle.dualoc_cli.specs.declared.words.Task.TheVariants as in_memory
+use Rattle.dualoc_cli.specs.declared.words.Job.TheVariants as job_in_memory
+use Rattle.dualoc_cli.specs.declared.halt.Halt.{Halt}
+use Rattle.dualoc_cli.specs.declared.halt.Halt.TheVariants as halt
+use Rattle.dualoc_cli.specs.Command.{ResultFiles, into_files, Job, SolveShort, SolveLong, ShowDuals, Check, Convert, Session, Command, OnFile, OnTrial, command_of}
+use Rattle.dualoc_cli.specs.Run.{Run}
+use Rattle.dualoc_cli.specs.Session.{IsSessionRow}
+use Rattle.dualoc_cli.specs.Due.{IsCause, IsInRow, IsUntouched, ReadsNoLine, Leaves, KeepsInput}
+use Rattle.dualoc_cli.specs.Talk.{GainsWhole}
+use Rattle.whatif_session.specs.Run.{Stop, AtRefusedWrite, RepliesLast}
 
 -- what a command in memory asks for
-abbrev pub asked_file : told_file.InstanceFile → InstanceFile
-asked_file file = record { form = file.form; name = file.name.now; given = file.given }
-
 abbrev pub asked_result : told_result.ResultFiles → ResultFiles
 asked_result into = into_files into.plan.now into.certificate.now
 
+abbrev pub asked_task : told_task.Task → Job
+asked_task in_memory.SolveShort = SolveShort
+asked_task (in_memory.SolveLong into given) = SolveLong (asked_result into) given
+asked_task in_memory.ShowDuals = ShowDuals
+asked_task (in_memory.Check certificate) = Check certificate.now
+asked_task (in_memory.Convert new) = Convert new.now
+
 abbrev pub asked_job : told_job.Job → Job
-asked_job in_memory.SolveShort = SolveShort
-asked_job (in_memory.SolveLong into given) = SolveLong (asked_result into) given
-asked_job in_memory.ShowDuals = ShowDuals
-asked_job (in_memory.Check certificate) = Check certificate.now
-asked_job (in_memory.Convert new) = Convert new.now
+asked_job (job_in_memory.Once task) = asked_task task
+asked_job job_in_memory.Session = Session
+
+abbrev pub asked_on_file : told_file_job.FileJob → Command
+asked_on_file asks = OnFile (file_in asks.file) (asked_job asks.job)
+
+abbrev pub asked_trial : told_numbers.TrialNumbers → Command
+asked_trial numbers = OnTrial numbers.seed numbers.sites numbers.custs
 
 abbrev pub asked : told.Command → Command
-asked command = OnFile (asked_file command.file) (asked_job command.job)
+asked (words_in_memory.OnFile asks) = asked_on_file asks
+asked (words_in_memory.OnTrial numbers) = asked_trial numbers
 
 -- what is so of every command: what it gives for the word `capacity` is an amount, and the sets of sites are walked over in files of the form `ufl` alone
 pub record IsSuited (file : InstanceFile) (job : Job) : Type 0 where
   pub small : IsSmall file.given
   pub short : job ≡ SolveShort → file.form ≡ Ufl
+
+-- what is so of what words ask for: a trial has numbers of sites and of customers within the limits
+abbrev pub IsSound : Command → Type 0
+IsSound (OnFile file job) = IsSuited file job
+IsSound (OnTrial seed m n) = AreSizes m n
 
 -- A part of the run had the shelf so at its start and at its end. No file was changed before it or behind it, and no count of faults fell.
 pub record Covers (r : Run) (old new : ShelfState) : Type 0 where
@@ -48,21 +80,66 @@ pub record Covers (r : Run) (old new : ShelfState) : Type 0 where
   pub writes_since : NeverFalls r.before.shelf.writes old.writes
   pub writes_until : NeverFalls new.writes r.after.shelf.writes
 
+-- this holds of every run that asks so, where a part of the run has these states of the shelf at its start and at its end
+abbrev pub InRuns : (Run → Type 0) → ShelfState → ShelfState → (Run → Type 0) → Type 0
+InRuns asks old new holds = (r : Run) → asks r → Covers r old new → holds r
+
+-- A part of the run had the ports so at its start and at its end. Behind it nothing is read, and what is printed is the last reply's text.
+pub record Spans (r : Run) (old new : Ports) : Type 0 where
+  pub shelf : Covers r old.shelf new.shelf
+  pub input : old.input ≡ r.before.input
+  pub input_left : new.input ≡ r.after.input
+  pub output : old.output ≡ r.before.output
+
+-- this holds of every run that asks so, where a part of the run has these states of the ports at its start and at its end
+abbrev pub InSpans : (Run → Type 0) → Ports → Ports → (Run → Type 0) → Type 0
+InSpans asks old new holds = (r : Run) → asks r → Spans r old new → holds r
+
+-- a part of the run comes to this reply, whose text is to be printed behind the replies in a row
+pub record ComesTo (r : Run) (output : SinkState) (reply : Reply) : Type 0 where
+  pub cause : IsCause r reply
+  pub untouched : IsUntouched r reply
+  pub row : List ℕ
+  pub row_is : IsInRow r reply row
+  pub gains : GainsWhole row r.before.output output
+
+-- memory runs out in it
+pub record RunsOut (r : Run) (output : SinkState) : Type 0 where
+  pub row : List ℕ
+  pub row_is : ((row ≡ []) × ReadsNoLine r (command_of r.words)) ⊎ ((stop : Stop) × IsSessionRow r stop row)
+  pub gains : GainsWhole row r.before.output output
+
+-- a reply in a row is refused
+pub record IsStopped (r : Run) (output : SinkState) (fault : SinkFault) : Type 0 where
+  pub done : List ℕ
+  pub reply : List ℕ
+  pub row_is : IsSessionRow r AtRefusedWrite (done ++ reply)
+  pub last : RepliesLast row_is.run.first row_is.run.lines done reply row_is.run.last
+  pub len : ℕ
+  pub front : len < length reply
+  pub gained : output.written ≡ with_back r.before.output.written (done ++ take len reply)
+  pub stopped : RefusedLast r.before.output.refusals output.refusals
+  pub failed : fault ≡ sink.Failed → Rose r.before.output.faults output.faults
+
+abbrev pub ComesToHalt : Run → SinkState → Halt → Type 0
+ComesToHalt r output halt.NoMemory = RunsOut r output
+ComesToHalt r output (halt.Refused fault) = IsStopped r output fault
+
+-- the status of a run whose output refused a reply in a row for this cause
+abbrev pub cut_status : SinkFault → Status
+cut_status sink.Failed = WriteFault
+cut_status sink.NoMemory = NoMemory
+
+-- what a part of a run keeps of the files and of the input
+abbrev pub KeepsAll : Run → Type 0
+KeepsAll r = Leaves r (command_of r.words) × KeepsInput r (command_of r.words)
+
 -- the text of the reply can be made: its plan is one of its instance, and its duals can be printed
+abbrev pub CanBePrinted : Outcome → Type 0
+CanBePrinted (Optimum I P cost) = IsFeasible I P
+CanBePrinted (Ascent I d) = ArePrintable I d
+CanBePrinted outcome = Unit {0}
+
 abbrev pub IsPrintable : Reply → Type 0
-IsPrintable NoCommand = Unit {0}
-IsPrintable InstanceUnread = Unit {0}
-IsPrintable LongInstance = Unit {0}
-IsPrintable (Faulty fault) = Unit {0}
-IsPrintable ManySites = Unit {0}
-IsPrintable (Optimum I P cost) = IsFeasible I P
-IsPrintable LargeBudget = Unit {0}
-IsPrintable Unwritten = Unit {0}
-IsPrintable (Searched claim nodes budget) = Unit {0}
-IsPrintable (Ascent I d) = ArePrintable I d
-IsPrintable CertificateUnread = Unit {0}
-IsPrintable LongCertificate = Unit {0}
-IsPrintable (Misspelt kind line) = Unit {0}
-IsPrintable (Judged verdict) = Unit {0}
-IsPrintable (Converted m n) = Unit {0}
-IsPrintable Unconverted = Unit {0}
+IsPrintable (Reached outcome) = CanBePrinted outcome
+IsPrintable reply = Unit {0}

@@ -1,17 +1,25 @@
 //! The commands of the program, over any shelf, input and output.
 //!
 //! `run` finds the command in its words, does what it asks for, which ends in a `Reply`, and prints
-//! the reply's text. Its contract says so: `specs/Due.antt` is the page to read.
+//! the reply's text. Its contract says so: `specs/Due.antt` is the page to read, and each command has a
+//! page of its own beside it and a module here.
 #![tactic(auto)]
 
+mod check;
 mod convert;
+mod duals;
+mod halt;
+mod limits;
 mod options;
 mod program;
 mod reply;
 mod search;
+mod session;
+mod solve;
 mod status;
 mod task;
 mod text;
+mod trial;
 mod words;
 
 pub use fixed_cost::MAX_INSTANCE_BYTES;

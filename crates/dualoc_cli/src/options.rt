@@ -1,10 +1,16 @@
 //! The options behind the names of a command line.
 ghost use Rattle.std.specs.Prelude.{◌≡◌, map, string_bytes};
-ghost use Rattle.fixed_cost.specs.Amount.{count_of};
-ghost use Rattle.dualoc_cli.specs.Command.{budget_of, printed_count, capacity_of, option_of, both_options, options_of};
+ghost use Rattle.dualoc_cli.specs.Command.{budget_of, plain_count, given_once, with_option, options_from, options_of};
 
-use fixed_cost::{Amount, read_count};
+use fixed_cost::read_count;
+use instance_forms::capacity;
 use itoa::Buffer;
+
+/// Which options a command takes beside `capacity`, which goes with a file of the form `cap`.
+#[derive(Clone, Copy)]
+pub struct Takes {
+    pub budget: bool,
+}
 
 /// What the options of a command line give.
 #[derive(Clone, Copy)]
@@ -16,51 +22,55 @@ pub struct Options {
 }
 
 impl Options {
-    /// The options that words are, each at most once and in either order, if they are those.
-    #[tactic(auto, unfolding(crate::specs::Command::options_of))]
-    pub fn of(words: &[String]) -> Option<Options>
-        ensures { result ≡ options_of (map string_bytes words.now) }
+    /// The options that words are, if each is one that the command takes and none is there twice. They
+    /// come in any order.
+    pub fn of(takes: Takes, words: &[String]) -> Option<Options>
+        ensures { result ≡ options_of takes (map string_bytes words.now) }
     {
-        match words {
-            [] => Some(Options {
-                budget: None,
-                capacity: None,
-            }),
-            [word] => one(word.as_str()),
-            [first, second] => {
-                let (first, second) = (first.as_str(), second.as_str());
-                both(budget(first), capacity(second)).or(both(budget(second), capacity(first)))
-            }
-            [_, _, _, ..] => None,
-        }
-    }
-}
-
-// The option that a word is, if it is one.
-fn one(word: &str) -> Option<Options>
-    ensures { result ≡ option_of word.now }
-{
-    if let Some(budget) = budget(word) {
-        return Some(Options {
-            budget: Some(budget),
+        let none = Options {
+            budget: None,
             capacity: None,
-        });
+        };
+        none.more(takes, words)
     }
-    let capacity = Some(capacity(word)?);
-    Some(Options {
-        budget: None,
-        capacity,
-    })
+
+    // These and those that more words are. None is there twice, so this goes on for few words.
+    #[tactic(auto, unfolding(crate::specs::Command::options_from))]
+    fn more(self, takes: Takes, words: &[String]) -> Option<Options>
+        ensures { result ≡ options_from takes self (map string_bytes words.now) }
+    {
+        let [word, words @ ..] = words else {
+            return Some(self);
+        };
+        self.with(takes, word.as_str())?.more(takes, words)
+    }
+
+    // These and one more, if a word is one that the command takes and that isn't there yet.
+    fn with(self, takes: Takes, word: &str) -> Option<Options>
+        ensures { result ≡ with_option takes word.now self }
+    {
+        if let Some(budget) = given_once(takes.budget, self.budget, budget(word)) {
+            return Some(Options {
+                budget: Some(budget),
+                capacity: self.capacity,
+            });
+        }
+        let capacity = Some(given_once(true, self.capacity, capacity(word))?);
+        Some(Options {
+            budget: self.budget,
+            capacity,
+        })
+    }
 }
 
-// A budget and a capacity, where both are there.
-fn both(budget: Option<u32>, capacity: Option<u64>) -> Option<Options>
-    ensures { result ≡ both_options budget capacity }
+// What an option gives, if the command takes it and it isn't there yet.
+fn given_once<T: Copy>(taken: bool, before: Option<T>, given: Option<T>) -> Option<T>
+    ensures { result ≡ given_once taken before given }
 {
-    match (budget, capacity) {
-        (Some(_), Some(_)) => Some(Options { budget, capacity }),
-        _ => None,
+    if !taken || before.is_some() {
+        return None;
     }
+    given
 }
 
 // The budget that an option gives, if it is one.
@@ -68,26 +78,15 @@ fn budget(option: &str) -> Option<u32>
     ensures { result ≡ budget_of option.now }
 {
     let digits = option.as_bytes().strip_prefix(b"budget=")?;
-    printed_count(digits)
+    number(digits)
 }
 
-// The count that digits spell, where they are just how it is printed.
-fn printed_count(digits: &[u8]) -> Option<u32>
-    ensures { result ≡ printed_count digits.now (count_of digits.now) }
+/// The number that a word is, if it is just how that number is printed.
+pub fn number(digits: &[u8]) -> Option<u32>
+    ensures { result ≡ plain_count digits.now }
 {
     match read_count(digits) {
         Ok(count) if digits == Buffer::new().format(count).as_bytes() => Some(count),
         _ => None,
-    }
-}
-
-// The capacity that an option gives, in millionths, if it is one.
-fn capacity(option: &str) -> Option<u64>
-    ensures { result ≡ capacity_of option.now }
-{
-    let word = option.as_bytes().strip_prefix(b"capacity=")?;
-    match Amount::read(word) {
-        Ok(amount) => Some(amount.micro()),
-        Err(_) => None,
     }
 }

@@ -1,10 +1,12 @@
 //! A whole run of the program.
-ghost use Rattle.std.specs.Prelude.{◌⊎◌, codes, map, string_bytes};
+ghost use Rattle.std.specs.Prelude.{◌≡◌, ◌⊎◌, [], codes, map, string_bytes};
 ghost use Rattle.shelf_port.specs.Ports.{shelf_state, source_state, sink_state, ports_of};
 ghost use Rattle.dualoc_cli.specs.Reply.{status_of, text_of};
-ghost use Rattle.dualoc_cli.specs.Due.{run_of, Runs, IsPrinted};
-ghost use Rattle.dualoc_cli.specs.Step.{IsPrintable};
+ghost use Rattle.dualoc_cli.specs.Run.{run_of};
+ghost use Rattle.dualoc_cli.specs.Due.{Runs, IsPrinted};
+ghost use Rattle.dualoc_cli.specs.Step.{IsPrintable, cut_status};
 
+use crate::halt::Halt;
 use crate::reply::Reply;
 use crate::status::Status;
 use crate::task::reply_to;
@@ -33,19 +35,30 @@ pub fn run<H: Shelf, I: Source, O: Sink>(
         (source_state (I.left input.new) (I.faults input.new))
         (sink_state (O.written out.new) (O.faults out.new) (O.refusals out.new)))) result }
 {
-    match reply_to(alloc, words, shelf) {
+    match reply_to(alloc, words, shelf, input, out) {
         Ok(reply) => print_reply(alloc, out, &reply),
-        Err(NoMemory) => print(out, Status::NoMemory, b"no memory\n"),
+        Err(Halt::NoMemory) => print(out, Status::NoMemory, b"no memory\n"),
+        Err(Halt::Refused(fault)) => cut_status(fault),
+    }
+}
+
+// The status of a run whose output refused a part of a reply in a row.
+fn cut_status(fault: SinkFault) -> Status
+    ensures { result ≡ cut_status fault }
+{
+    match fault {
+        SinkFault::Failed => Status::WriteFault,
+        SinkFault::NoMemory => Status::NoMemory,
     }
 }
 
 // Prints a reply, and answers the status that the run then has.
 fn print_reply<O: Sink>(alloc: Global, out: &mut O, reply: &Reply) -> Status
     requires { IsPrintable reply.now }
-    ensures { IsPrinted (text_of reply.now) (status_of reply.now) result
+    ensures { IsPrinted [] (text_of reply.now) (status_of reply.now) result
         (sink_state (O.written out.old) (O.faults out.old) (O.refusals out.old))
         (sink_state (O.written out.new) (O.faults out.new) (O.refusals out.new))
-        ⊎ IsPrinted (codes "no memory\n") Status.NoMemory result
+        ⊎ IsPrinted [] (codes "no memory\n") Status.NoMemory result
         (sink_state (O.written out.old) (O.faults out.old) (O.refusals out.old))
         (sink_state (O.written out.new) (O.faults out.new) (O.refusals out.new)) }
 {
@@ -57,7 +70,7 @@ fn print_reply<O: Sink>(alloc: Global, out: &mut O, reply: &Reply) -> Status
 
 // Prints a text, and answers the status that the run then has.
 fn print<O: Sink>(out: &mut O, due: Status, text: &[u8]) -> Status
-    ensures { IsPrinted text.now due result
+    ensures { IsPrinted [] text.now due result
         (sink_state (O.written out.old) (O.faults out.old) (O.refusals out.old))
         (sink_state (O.written out.new) (O.faults out.new) (O.refusals out.new)) }
 {

@@ -1,5 +1,5 @@
 ghost use Rattle.std.specs.Prelude.{◌≡◌};
-ghost use Rattle.dualoc_cli.specs.Reply.{status_of, status_of_claim};
+ghost use Rattle.dualoc_cli.specs.Reply.{failed_status, refused_status, outcome_status, status_of, status_of_claim};
 
 use crate::status::Status;
 use certificate_check::{CertKind, Verdict};
@@ -14,20 +14,53 @@ use plan_meaning::Plan;
 pub enum Reply {
     /// The words are no command.
     NoCommand,
-    /// A read of the instance's file failed.
-    InstanceUnread,
+    /// A read or a write of a file failed, or a read of the input.
+    Failed(Port),
+    /// The instance is refused, what is asked of it, or the input.
+    Refused(Refusal),
+    /// What the command came to.
+    Reached(Outcome),
+}
+
+/// A file whose reading or writing failed, or the input.
+#[derive(Clone, Copy, Debug, PartialEq, Eq)]
+pub enum Port {
+    /// The instance's, which was read.
+    Instance,
+    /// The certificate's, which was read.
+    Certificate,
+    /// The plan's or the certificate's of a result, which was written.
+    Result,
+    /// The new one of a conversion, which was written.
+    New,
+    /// The input of a session, which was read.
+    Input,
+}
+
+/// Why an instance is refused, what is asked of it, or the input.
+#[derive(Clone, Copy, Debug, PartialEq, Eq)]
+pub enum Refusal {
     /// The instance's file is longer than the limit.
     LongInstance,
     /// The first fault of the instance's file.
     Faulty(FileFault),
     /// The instance has more sites than the walk over all sets of sites takes.
     ManySites,
-    /// An optimal plan of the instance, and its cost in millionths.
-    Optimum(Instance, Plan, u64),
     /// The budget is past the greatest one for the instance.
     LargeBudget,
-    /// A write of the plan's file failed, or one of the certificate's file.
-    Unwritten,
+    /// Nothing is decided by the first bytes of the certificate's file, up to the limit, and more follow.
+    LongCertificate,
+    /// A line of the input is longer than the limit.
+    LongLine,
+    /// The input is longer than the limit.
+    LongInput,
+}
+
+/// What a command came to.
+#[derive(Drop)]
+pub enum Outcome {
+    /// An optimal plan of the instance, and its cost in millionths.
+    Optimum(Instance, Plan, u64),
     /// What a search came to, the number of nodes of its tree, and the budget in force. The plan and the
     /// certificate are written.
     Searched {
@@ -35,12 +68,16 @@ pub enum Reply {
         nodes: u32,
         budget: u32,
     },
+    /// What a search came to, the number of nodes of its tree, the budget in force, and how many sites its
+    /// plan opens.
+    Tried {
+        claim: Claim,
+        nodes: u32,
+        budget: u32,
+        opened: usize,
+    },
     /// The duals of an ascent of the instance from zeros, where nothing is decided yet.
     Ascent(Instance, Duals),
-    /// A read of the certificate's file failed.
-    CertificateUnread,
-    /// Nothing is decided by the first bytes of the certificate's file, up to the limit, and more follow.
-    LongCertificate,
     /// The first fault of the certificate's text, and its line, counted from 1.
     Misspelt(CertKind, u64),
     /// The verdict on the certificate.
@@ -50,8 +87,8 @@ pub enum Reply {
         sites: usize,
         custs: usize,
     },
-    /// A write of the new file failed.
-    Unconverted,
+    /// A session ended with `quit`, or with its input. Its replies are printed.
+    Ended,
 }
 
 impl Reply {
@@ -61,17 +98,53 @@ impl Reply {
     {
         match self {
             Reply::NoCommand => Status::Usage,
-            Reply::Faulty(_) => Status::BadInput,
-            Reply::InstanceUnread | Reply::CertificateUnread => Status::ReadFault,
-            Reply::Unwritten | Reply::Unconverted => Status::WriteFault,
-            Reply::LongInstance | Reply::ManySites | Reply::LargeBudget | Reply::LongCertificate =>
-                Status::TooLarge,
-            Reply::Searched { claim, .. } => status_of_claim(*claim),
-            Reply::Optimum(..)
-            | Reply::Ascent(..)
-            | Reply::Judged(Verdict::Yes(_))
-            | Reply::Converted { .. } => Status::Done,
-            Reply::Misspelt(..) | Reply::Judged(Verdict::No { .. }) => Status::CheckNo,
+            Reply::Failed(port) => port.status(),
+            Reply::Refused(refusal) => refusal.status(),
+            Reply::Reached(outcome) => outcome.status(),
+        }
+    }
+}
+
+impl Port {
+    fn status(self) -> Status
+        ensures { result ≡ failed_status self }
+    {
+        match self {
+            Port::Instance | Port::Certificate | Port::Input => Status::ReadFault,
+            Port::Result | Port::New => Status::WriteFault,
+        }
+    }
+}
+
+impl Refusal {
+    fn status(self) -> Status
+        ensures { result ≡ refused_status self }
+    {
+        match self {
+            Refusal::Faulty(_) => Status::BadInput,
+            Refusal::LongInstance
+            | Refusal::ManySites
+            | Refusal::LargeBudget
+            | Refusal::LongCertificate
+            | Refusal::LongLine
+            | Refusal::LongInput => Status::TooLarge,
+        }
+    }
+}
+
+impl Outcome {
+    fn status(&self) -> Status
+        ensures { result ≡ outcome_status self.now }
+    {
+        match self {
+            Outcome::Searched { claim, .. } => status_of_claim(*claim),
+            Outcome::Tried { claim, .. } => status_of_claim(*claim),
+            Outcome::Optimum(..)
+            | Outcome::Ascent(..)
+            | Outcome::Judged(Verdict::Yes(_))
+            | Outcome::Converted { .. }
+            | Outcome::Ended => Status::Done,
+            Outcome::Misspelt(..) | Outcome::Judged(Verdict::No { .. }) => Status::CheckNo,
         }
     }
 }

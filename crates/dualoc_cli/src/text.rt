@@ -1,9 +1,9 @@
 //! The texts of replies.
 ghost use Rattle.std.specs.Prelude.{◌≡◌, IfOk};
-ghost use Rattle.dualoc_cli.specs.Reply.{text_of, result_line, no_text};
-ghost use Rattle.dualoc_cli.specs.Step.{IsPrintable};
+ghost use Rattle.dualoc_cli.specs.Reply.{failed_text, refused_text, outcome_text, text_of, result_line, no_text};
+ghost use Rattle.dualoc_cli.specs.Step.{CanBePrinted, IsPrintable};
 
-use crate::reply::Reply;
+use crate::reply::{Outcome, Port, Refusal, Reply};
 use certificate_check::{CertKind, Verdict, Why};
 use fixed_cost::{FileFault, push_claim, push_micro};
 use instance_store::NoMemory;
@@ -22,25 +22,59 @@ pub fn text(alloc: Global, reply: &Reply) -> Result<Vec<u8>, NoMemory>
 {
     match reply {
         Reply::NoCommand => line(alloc, b"usage\n"),
-        Reply::InstanceUnread | Reply::CertificateUnread => line(alloc, b"read fault\n"),
-        Reply::LongInstance => line(alloc, b"too large instance\n"),
-        Reply::ManySites => line(alloc, b"too large sites\n"),
-        Reply::LargeBudget => line(alloc, b"too large budget\n"),
-        Reply::Unwritten | Reply::Unconverted => line(alloc, b"write fault\n"),
-        Reply::LongCertificate => line(alloc, b"too large certificate\n"),
-        Reply::Faulty(fault) => faulty(alloc, *fault),
-        Reply::Optimum(inst, plan, cost) => {
+        Reply::Failed(port) => failed(alloc, *port),
+        Reply::Refused(refusal) => refused(alloc, *refusal),
+        Reply::Reached(outcome) => reached(alloc, outcome),
+    }
+}
+
+fn failed(alloc: Global, port: Port) -> Result<Vec<u8>, NoMemory>
+    ensures { IfOk result (λ text. text.items ≡ failed_text port) }
+{
+    match port {
+        Port::Instance | Port::Certificate | Port::Input => line(alloc, b"read fault\n"),
+        Port::Result | Port::New => line(alloc, b"write fault\n"),
+    }
+}
+
+fn refused(alloc: Global, refusal: Refusal) -> Result<Vec<u8>, NoMemory>
+    ensures { IfOk result (λ text. text.items ≡ refused_text refusal) }
+{
+    match refusal {
+        Refusal::LongInstance => line(alloc, b"too large instance\n"),
+        Refusal::Faulty(fault) => faulty(alloc, fault),
+        Refusal::ManySites => line(alloc, b"too large sites\n"),
+        Refusal::LargeBudget => line(alloc, b"too large budget\n"),
+        Refusal::LongCertificate => line(alloc, b"too large certificate\n"),
+        Refusal::LongLine => line(alloc, b"too large line\n"),
+        Refusal::LongInput => line(alloc, b"too large input\n"),
+    }
+}
+
+fn reached(alloc: Global, outcome: &Outcome) -> Result<Vec<u8>, NoMemory>
+    requires { CanBePrinted outcome.now }
+    ensures { IfOk result (λ text. text.items ≡ outcome_text outcome.now) }
+{
+    match outcome {
+        Outcome::Optimum(inst, plan, cost) => {
             plan_text(alloc, inst, Claim::Optimal(*cost), Some(plan))
         }
-        Reply::Searched {
+        Outcome::Searched {
             claim,
             nodes,
             budget,
         } => searched(alloc, *claim, *nodes, *budget),
-        Reply::Ascent(inst, duals) => duals_text(alloc, inst, duals),
-        Reply::Misspelt(kind, number) => misspelt(alloc, *kind, *number),
-        Reply::Judged(verdict) => judged(alloc, *verdict),
-        Reply::Converted { sites, custs } => converted(alloc, *sites, *custs),
+        Outcome::Tried {
+            claim,
+            nodes,
+            budget,
+            opened,
+        } => tried(alloc, *claim, *nodes, *budget, *opened),
+        Outcome::Ascent(inst, duals) => duals_text(alloc, inst, duals),
+        Outcome::Misspelt(kind, number) => misspelt(alloc, *kind, *number),
+        Outcome::Judged(verdict) => judged(alloc, *verdict),
+        Outcome::Converted { sites, custs } => converted(alloc, *sites, *custs),
+        Outcome::Ended => Ok(Vec::new(alloc)),
     }
 }
 
@@ -51,7 +85,7 @@ fn line(alloc: Global, text: &[u8]) -> Result<Vec<u8>, NoMemory>
 }
 
 fn faulty(alloc: Global, fault: FileFault) -> Result<Vec<u8>, NoMemory>
-    ensures { IfOk result (λ text. text.items ≡ text_of (Reply.Faulty fault)) }
+    ensures { IfOk result (λ text. text.items ≡ refused_text (Refusal.Faulty fault)) }
 {
     Ok(format!(in alloc; "bad input {fault}\n")?.into_bytes())
 }
@@ -69,15 +103,30 @@ fn searched(alloc: Global, claim: Claim, nodes: u32, budget: u32) -> Result<Vec<
     Ok(text)
 }
 
+fn tried(
+    alloc: Global,
+    claim: Claim,
+    nodes: u32,
+    budget: u32,
+    sites: usize,
+) -> Result<Vec<u8>, NoMemory>
+    ensures { IfOk result (λ text. text.items ≡ outcome_text (Outcome.Tried claim nodes budget sites)) }
+{
+    let mut text = searched(alloc, claim, nodes, budget)?;
+    let tail = format!(in alloc; "open {sites}\n")?;
+    text.extend_from_slice(tail.as_bytes())?;
+    Ok(text)
+}
+
 fn misspelt(alloc: Global, kind: CertKind, line: u64) -> Result<Vec<u8>, NoMemory>
-    ensures { IfOk result (λ text. text.items ≡ text_of (Reply.Misspelt kind line)) }
+    ensures { IfOk result (λ text. text.items ≡ outcome_text (Outcome.Misspelt kind line)) }
 {
     let name = kind.name();
     Ok(format!(in alloc; "no {name} line {line}\n")?.into_bytes())
 }
 
 fn judged(alloc: Global, verdict: Verdict) -> Result<Vec<u8>, NoMemory>
-    ensures { IfOk result (λ text. text.items ≡ text_of (Reply.Judged verdict)) }
+    ensures { IfOk result (λ text. text.items ≡ outcome_text (Outcome.Judged verdict)) }
 {
     match verdict {
         Verdict::Yes(claim) => yes(alloc, claim),
@@ -86,7 +135,7 @@ fn judged(alloc: Global, verdict: Verdict) -> Result<Vec<u8>, NoMemory>
 }
 
 fn yes(alloc: Global, claim: Claim) -> Result<Vec<u8>, NoMemory>
-    ensures { IfOk result (λ text. text.items ≡ text_of (Reply.Judged (Verdict.Yes claim))) }
+    ensures { IfOk result (λ text. text.items ≡ outcome_text (Outcome.Judged (Verdict.Yes claim))) }
 {
     let mut text = Vec::from_slice(alloc, b"yes ")?;
     push_claim(&mut text, claim)?;
@@ -98,13 +147,13 @@ fn no(alloc: Global, line: u64, why: Why) -> Result<Vec<u8>, NoMemory>
     ensures { IfOk result (λ text. text.items ≡ no_text line why) }
 {
     match why {
-        Why::PlanRefused(fault) => refused(alloc, line, fault),
+        Why::PlanRefused(fault) => plan_refused(alloc, line, fault),
         Why::CostDiffers { found } => differs(alloc, line, found),
         Why::LeafOpen { bound, q } => open(alloc, line, bound, q),
     }
 }
 
-fn refused(alloc: Global, line: u64, fault: PlanFault) -> Result<Vec<u8>, NoMemory>
+fn plan_refused(alloc: Global, line: u64, fault: PlanFault) -> Result<Vec<u8>, NoMemory>
     ensures { IfOk result (λ text. text.items ≡ no_text line (Why.PlanRefused fault)) }
 {
     let name = fault.name();
@@ -131,7 +180,7 @@ fn open(alloc: Global, line: u64, bound: i128, q: u32) -> Result<Vec<u8>, NoMemo
 }
 
 fn converted(alloc: Global, sites: usize, custs: usize) -> Result<Vec<u8>, NoMemory>
-    ensures { IfOk result (λ text. text.items ≡ text_of (Reply.Converted sites custs)) }
+    ensures { IfOk result (λ text. text.items ≡ outcome_text (Outcome.Converted sites custs)) }
 {
     Ok(format!(in alloc; "converted sites {sites} customers {custs}\n")?.into_bytes())
 }

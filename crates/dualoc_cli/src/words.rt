@@ -1,62 +1,12 @@
 ghost use Rattle.std.specs.Prelude.{◌≡◌, [], ◌∷◌, map, string_bytes};
 ghost use Rattle.std.specs.Option.{option_map};
-ghost use Rattle.dualoc_cli.specs.Command.{command_of, solve_command, short_of, long_of, duals_command, check_command, convert_command, unbudgeted, job_on, file_of, form_of, are_names};
-ghost use Rattle.dualoc_cli.specs.Step.{asked, asked_file, asked_job, asked_result};
+ghost use Rattle.dualoc_cli.specs.Command.{command_of, solve_command, short_of, duals_command, check_command, convert_command, session_command, trial_command, trial_of, are_trial_numbers, job_on, are_names};
+ghost use Rattle.dualoc_cli.specs.Step.{asked, asked_job};
 
-use crate::options::Options;
-
-/// A form of instance files.
-#[derive(Clone, Copy, Debug, PartialEq, Eq)]
-pub enum FileForm {
-    /// The warehouse files of the OR-Library, with their capacities.
-    Cap,
-    /// The same files without their capacities.
-    Uncap,
-    /// The simple format of UflLib.
-    Ufl,
-    /// The p-median networks of the OR-Library.
-    Pmed,
-    /// The suite's own form.
-    Own,
-}
-
-impl FileForm {
-    /// The form that a word names.
-    pub fn of(word: &str) -> Option<FileForm>
-        ensures { result ≡ form_of word.now }
-    {
-        match word {
-            "cap" => Some(FileForm::Cap),
-            "uncap" => Some(FileForm::Uncap),
-            "ufl" => Some(FileForm::Ufl),
-            "pmed" => Some(FileForm::Pmed),
-            "own" => Some(FileForm::Own),
-            _ => None,
-        }
-    }
-}
-
-/// The file of an instance.
-#[derive(Clone, Copy)]
-pub struct InstanceFile<'a> {
-    pub form: FileForm,
-    pub name: &'a str,
-    /// The amount of the option `capacity`, in millionths, where it is there.
-    pub given: Option<u64>,
-}
-
-impl<'a> InstanceFile<'a> {
-    // The file that a form and a name are words for. A capacity may be given with the form `cap` alone.
-    fn of(form: &str, name: &'a str, given: Option<u64>) -> Option<InstanceFile<'a>>
-        ensures { option_map asked_file result ≡ file_of form.now name.now given }
-    {
-        let form = FileForm::of(form)?;
-        if given.is_some() && !matches!(form, FileForm::Cap) {
-            return None;
-        }
-        Some(InstanceFile { form, name, given })
-    }
-}
+use crate::limits::MAX_SEED;
+use crate::options::{Options, Takes, number};
+use instance_forms::{FileForm, InstanceFile};
+use location_terms::{MAX_CUSTOMERS, MAX_LANES, MAX_SITES};
 
 /// The names of the files into which the result of a search is written.
 #[derive(Clone, Copy)]
@@ -65,9 +15,9 @@ pub struct ResultFiles<'a> {
     pub certificate: &'a str,
 }
 
-/// What is to be done with the instance.
+/// What is to be done with the instance by a command that answers once.
 #[derive(Clone, Copy)]
-pub enum Job<'a> {
+pub enum Task<'a> {
     /// To solve it by a walk over all sets of sites, and to print the plan.
     SolveShort,
     /// To solve it by a search within a budget of nodes, or one of its own where none is given, and to
@@ -81,11 +31,37 @@ pub enum Job<'a> {
     Convert(&'a str),
 }
 
-/// What the words of a command line ask for.
+/// What is to be done with the instance.
 #[derive(Clone, Copy)]
-pub struct Command<'a> {
+pub enum Job<'a> {
+    /// A task that is answered once.
+    Once(Task<'a>),
+    /// To hold a session on it, whose lines come from the input.
+    Session,
+}
+
+/// A job on the instance in a file.
+#[derive(Clone, Copy)]
+pub struct FileJob<'a> {
     pub file: InstanceFile<'a>,
     pub job: Job<'a>,
+}
+
+/// What the instance of a trial is made of.
+#[derive(Clone, Copy)]
+pub struct TrialNumbers {
+    pub seed: u32,
+    pub sites: u32,
+    pub custs: u32,
+}
+
+/// What the words of a command line ask for.
+#[derive(Clone, Copy)]
+pub enum Command<'a> {
+    /// A job on the instance in a file.
+    OnFile(FileJob<'a>),
+    /// A search of the instance that these numbers stand for.
+    OnTrial(TrialNumbers),
 }
 
 impl<'a> Command<'a> {
@@ -101,6 +77,8 @@ impl<'a> Command<'a> {
             "duals" => duals(words),
             "check" => check(words),
             "convert" => convert(words),
+            "session" => session(words),
+            "trial" => trial(words),
             _ => None,
         }
     }
@@ -117,11 +95,13 @@ fn solve(words: &[String]) -> Option<Command<'_>>
     let [form, file, plan, certificate, options @ ..] = words else {
         return None;
     };
-    let into = ResultFiles {
-        plan: plan.as_str(),
-        certificate: certificate.as_str(),
-    };
-    long(form.as_str(), file.as_str(), into, Options::of(options))
+    let (file, plan, certificate) = (file.as_str(), plan.as_str(), certificate.as_str());
+    if !are_apart(file, plan, certificate) {
+        return None;
+    }
+    let options = Options::of(Takes { budget: true }, options)?;
+    let job = Job::Once(Task::SolveLong(ResultFiles { plan, certificate }, options.budget));
+    job_on(form.as_str(), file, job, options.capacity)
 }
 
 // The short form of `solve`.
@@ -136,28 +116,10 @@ fn short<'a>(form: &str, name: &'a str) -> Option<Command<'a>>
         name,
         given: None,
     };
-    Some(Command {
+    Some(Command::OnFile(FileJob {
         file,
-        job: Job::SolveShort,
-    })
-}
-
-// The long form of `solve`, which may take a budget.
-#[tactic(auto, unfolding(crate::specs::Command::long_of))]
-fn long<'a>(
-    form: &str,
-    name: &'a str,
-    into: ResultFiles<'a>,
-    options: Option<Options>,
-) -> Option<Command<'a>>
-    ensures { option_map asked result ≡ long_of form.now name.now (asked_result into.entry) options }
-{
-    if !are_apart(name, into.plan, into.certificate) {
-        return None;
-    }
-    let options = options?;
-    let job = Job::SolveLong(into, options.budget);
-    job_on(form, name, job, options.capacity)
+        job: Job::Once(Task::SolveShort),
+    }))
 }
 
 // The words behind `duals`.
@@ -171,8 +133,13 @@ fn duals(words: &[String]) -> Option<Command<'_>>
     if file.is_empty() {
         return None;
     }
-    let options = Options::of(options)?;
-    unbudgeted(form.as_str(), file.as_str(), Job::ShowDuals, options)
+    let options = Options::of(Takes { budget: false }, options)?;
+    job_on(
+        form.as_str(),
+        file.as_str(),
+        Job::Once(Task::ShowDuals),
+        options.capacity,
+    )
 }
 
 // The words behind `check`.
@@ -187,8 +154,13 @@ fn check(words: &[String]) -> Option<Command<'_>>
     if !are_names(file, certificate) {
         return None;
     }
-    let options = Options::of(options)?;
-    unbudgeted(form.as_str(), file, Job::Check(certificate), options)
+    let options = Options::of(Takes { budget: false }, options)?;
+    job_on(
+        form.as_str(),
+        file,
+        Job::Once(Task::Check(certificate)),
+        options.capacity,
+    )
 }
 
 // The words behind `convert`.
@@ -203,19 +175,63 @@ fn convert(words: &[String]) -> Option<Command<'_>>
     if !are_names(file, new) {
         return None;
     }
-    let options = Options::of(options)?;
-    unbudgeted(form.as_str(), file, Job::Convert(new), options)
+    let options = Options::of(Takes { budget: false }, options)?;
+    job_on(
+        form.as_str(),
+        file,
+        Job::Once(Task::Convert(new)),
+        options.capacity,
+    )
 }
 
-// A job on a file that takes no budget.
-#[tactic(auto, unfolding(crate::specs::Command::unbudgeted))]
-fn unbudgeted<'a>(form: &str, name: &'a str, job: Job<'a>, options: Options) -> Option<Command<'a>>
-    ensures { option_map asked result ≡ unbudgeted form.now name.now (asked_job job.entry) options }
+// The words behind `session`.
+#[tactic(auto, unfolding(crate::specs::Command::session_command))]
+fn session(words: &[String]) -> Option<Command<'_>>
+    ensures { option_map asked result ≡ session_command (map string_bytes words.now) }
 {
-    if options.budget.is_some() {
+    let [form, file, options @ ..] = words else {
+        return None;
+    };
+    if file.is_empty() {
         return None;
     }
-    job_on(form, name, job, options.capacity)
+    let options = Options::of(Takes { budget: false }, options)?;
+    job_on(form.as_str(), file.as_str(), Job::Session, options.capacity)
+}
+
+// The words behind `trial`.
+#[tactic(auto, unfolding(crate::specs::Command::trial_command))]
+fn trial(words: &[String]) -> Option<Command<'static>>
+    ensures { option_map asked result ≡ trial_command (map string_bytes words.now) }
+{
+    let [seed, sites, custs] = words else {
+        return None;
+    };
+    let seed = number(seed.as_bytes())?;
+    let sites = number(sites.as_bytes())?;
+    let custs = number(custs.as_bytes())?;
+    trial_of(seed, sites, custs)
+}
+
+// The trial of these numbers, if they are within the limits.
+fn trial_of(seed: u32, sites: u32, custs: u32) -> Option<Command<'static>>
+    ensures { option_map asked result ≡ trial_of seed sites custs }
+{
+    if !are_trial_numbers(seed, sites, custs) {
+        return None;
+    }
+    Some(Command::OnTrial(TrialNumbers { seed, sites, custs }))
+}
+
+// Whether a seed, a number of sites and a number of customers are within the limits.
+fn are_trial_numbers(seed: u32, sites: u32, custs: u32) -> bool
+    ensures { result ≡ are_trial_numbers seed sites custs }
+{
+    let lanes = u64::from(sites) * u64::from(custs);
+    seed <= MAX_SEED
+        && (1 <= sites && sites as usize <= MAX_SITES)
+        && (1 <= custs && custs as usize <= MAX_CUSTOMERS)
+        && lanes <= MAX_LANES as u64
 }
 
 // A job on a file, with the capacity that is given.
@@ -223,7 +239,7 @@ fn job_on<'a>(form: &str, name: &'a str, job: Job<'a>, capacity: Option<u64>) ->
     ensures { option_map asked result ≡ job_on form.now name.now (asked_job job.entry) capacity }
 {
     let file = InstanceFile::of(form, name, capacity)?;
-    Some(Command { file, job })
+    Some(Command::OnFile(FileJob { file, job }))
 }
 
 // Whether the names of three files are not empty, and all different.

@@ -1,52 +1,35 @@
-use Rattle.std.proofs.Common.{◌≡◌, Ok, length, refl, ap, subst, arith}
-use Rattle.dualoc_cli.specs.Step.{asked_file, asked_job}
-use Rattle.dualoc_cli.specs.Command.{meaning_in}
-use Rattle.dualoc_cli.proofs.Causes.{too_long, unchanged, covers_rest, task_of}
-use Rattle.shelf_port.specs.Ports.{ShelfState, shelf_state}
+use Rattle.std.proofs.lemmas.Result.{err_from_is_err_and}
+use Rattle.dualoc_cli.proofs.Spanning.{trial_replied, trial_halted, trial_kept}
 use Rattle.dualoc_cli.proofs.task.answer.Goals as goal
 
-pub returns-in-Err-TooLong-clause-cause : goal.returns-in-Err-TooLong-clause-cause
-returns-in-Err-TooLong-clause-cause g c =
-    let read = rw c.in-Err-TooLong.field-0-is at c.in-Err-TooLong.ensures in
-    λ r words_are part. too_long r (asked_file c.args.command.file) (asked_job c.args.command.job) _ words_are part.files (read.too_long refl)
+pub on_file-requires : goal.on_file-requires
+on_file-requires g c = rw c.in-OnFile.is at c.requires
 
-pub returns-in-Err-File-clause-keeps : goal.returns-in-Err-File-clause-keeps
-returns-in-Err-File-clause-keeps g c =
-    let old : ShelfState = shelf_state (g.H.Shelf.files c.args.shelf.now) (g.H.Shelf.read_faults c.args.shelf.now) (g.H.Shelf.write_faults c.args.shelf.now) in
-    let new : ShelfState = shelf_state (g.H.Shelf.files c.read_whole.new.shelf) (g.H.Shelf.read_faults c.read_whole.new.shelf) (g.H.Shelf.write_faults c.read_whole.new.shelf) in
-    λ r words_are part. unchanged r (asked_job c.args.command.job) old new part c.read_whole.ensures.unchanged
+pub solve_trial-requires : goal.solve_trial-requires
+solve_trial-requires g c = rw c.in-OnTrial.is at c.requires
 
-pub returns-in-Ok-clause-keeps : goal.returns-in-Ok-clause-keeps
-returns-in-Ok-clause-keeps g c =
-    let old : ShelfState = shelf_state (g.H.Shelf.files c.args.shelf.now) (g.H.Shelf.read_faults c.args.shelf.now) (g.H.Shelf.write_faults c.args.shelf.now) in
-    let new : ShelfState = shelf_state (g.H.Shelf.files c.read_whole.new.shelf) (g.H.Shelf.read_faults c.read_whole.new.shelf) (g.H.Shelf.write_faults c.read_whole.new.shelf) in
-    λ r words_are part. unchanged r (asked_job c.args.command.job) old new part c.read_whole.ensures.unchanged
+pub returns-in-OnFile-clause-replied : goal.returns-in-OnFile-clause-replied
+returns-in-OnFile-clause-replied g c = rw c.in-OnFile.is c.on_file.ensures.replied
 
-pub returns-in-Err-Failed-clause-keeps : goal.returns-in-Err-Failed-clause-keeps
-returns-in-Err-Failed-clause-keeps g c =
-    let old : ShelfState = shelf_state (g.H.Shelf.files c.args.shelf.now) (g.H.Shelf.read_faults c.args.shelf.now) (g.H.Shelf.write_faults c.args.shelf.now) in
-    let new : ShelfState = shelf_state (g.H.Shelf.files c.read_whole.new.shelf) (g.H.Shelf.read_faults c.read_whole.new.shelf) (g.H.Shelf.write_faults c.read_whole.new.shelf) in
-    λ r words_are part. unchanged r (asked_job c.args.command.job) old new part c.read_whole.ensures.unchanged
+pub returns-in-OnFile-clause-halted : goal.returns-in-OnFile-clause-halted
+returns-in-OnFile-clause-halted g c = rw c.in-OnFile.is c.on_file.ensures.halted
 
-pub returns-in-Err-TooLong-clause-keeps : goal.returns-in-Err-TooLong-clause-keeps
-returns-in-Err-TooLong-clause-keeps g c =
-    let old : ShelfState = shelf_state (g.H.Shelf.files c.args.shelf.now) (g.H.Shelf.read_faults c.args.shelf.now) (g.H.Shelf.write_faults c.args.shelf.now) in
-    let new : ShelfState = shelf_state (g.H.Shelf.files c.read_whole.new.shelf) (g.H.Shelf.read_faults c.read_whole.new.shelf) (g.H.Shelf.write_faults c.read_whole.new.shelf) in
-    λ r words_are part. unchanged r (asked_job c.args.command.job) old new part c.read_whole.ensures.unchanged
+pub returns-in-OnFile-clause-keeps : goal.returns-in-OnFile-clause-keeps
+returns-in-OnFile-clause-keeps g c = rw c.in-OnFile.is c.on_file.ensures.keeps
 
-pub returns-clause-keeps : goal.returns-clause-keeps
-returns-clause-keeps g c =
-    let old : ShelfState = shelf_state (g.H.Shelf.files c.args.shelf.now) (g.H.Shelf.read_faults c.args.shelf.now) (g.H.Shelf.write_faults c.args.shelf.now) in
-    let new : ShelfState = shelf_state (g.H.Shelf.files c.read_whole.new.shelf) (g.H.Shelf.read_faults c.read_whole.new.shelf) (g.H.Shelf.write_faults c.read_whole.new.shelf) in
-    λ r words_are part. unchanged r (asked_job c.args.command.job) old new part c.read_whole.ensures.unchanged
+pub returns-in_ok-solve_trial-in-OnTrial-clause-replied : goal.returns-in_ok-solve_trial-in-OnTrial-clause-replied
+returns-in_ok-solve_trial-in-OnTrial-clause-replied g c =
+    let numbers = c.in-OnTrial.numbers in
+    rw c.in-OnTrial.is (trial_replied numbers.seed numbers.sites numbers.custs _ _ c.in_ok-solve_trial-in-OnTrial.ensures.once c.in_ok-solve_trial-in-OnTrial.ensures.cause)
 
-pub returns-in-Ok-read-clause-keeps : goal.returns-in-Ok-read-clause-keeps
-returns-in-Ok-read-clause-keeps g c =
-    let old : ShelfState = shelf_state (g.H.Shelf.files c.args.shelf.now) (g.H.Shelf.read_faults c.args.shelf.now) (g.H.Shelf.write_faults c.args.shelf.now) in
-    let mid : ShelfState = shelf_state (g.H.Shelf.files c.read_whole.new.shelf) (g.H.Shelf.read_faults c.read_whole.new.shelf) (g.H.Shelf.write_faults c.read_whole.new.shelf) in
-    let new : ShelfState = shelf_state (g.H.Shelf.files c.work.new.shelf) (g.H.Shelf.read_faults c.work.new.shelf) (g.H.Shelf.write_faults c.work.new.shelf) in
-    λ r words_are part.
-    c.work.ensures.keeps r
-    (task_of r (asked_file c.args.command.file) (asked_job c.args.command.job) _ c.in-Ok.bytes.items c.in-Ok-read.inst words_are part.files
-    c.in-Ok.ensures.content (omega (arith, c.in-Ok.ensures.within, c.deref.ensures.len, ap length c.deref.ensures.value)) (subst (λ b. meaning_in (asked_file c.args.command.file) b ≡ Ok c.in-Ok-read.inst) c.deref.ensures.value c.in-Ok-read.ensures.meaning))
-    (covers_rest r old mid new part c.read_whole.ensures.unchanged c.read_whole.ensures.reads c.read_whole.ensures.writes)
+pub returns-in_ok-solve_trial-in-OnTrial-clause-keeps : goal.returns-in_ok-solve_trial-in-OnTrial-clause-keeps
+returns-in_ok-solve_trial-in-OnTrial-clause-keeps g c = let numbers = c.in-OnTrial.numbers in rw c.in-OnTrial.is (trial_kept numbers.seed numbers.sites numbers.custs _)
+
+pub returns-in_err-solve_trial-in-OnTrial-clause-keeps : goal.returns-in_err-solve_trial-in-OnTrial-clause-keeps
+returns-in_err-solve_trial-in-OnTrial-clause-keeps g c = let numbers = c.in-OnTrial.numbers in rw c.in-OnTrial.is (trial_kept numbers.seed numbers.sites numbers.custs _)
+
+pub returns-in_err-solve_trial-in-OnTrial-clause-halted : goal.returns-in_err-solve_trial-in-OnTrial-clause-halted
+returns-in_err-solve_trial-in-OnTrial-clause-halted g c =
+    let p = err_from_is_err_and c.from_residual.result c.from_residual.ensures.1 in
+    let numbers = c.in-OnTrial.numbers in
+    rw (p.1, p.2, c.in-OnTrial.is) (trial_halted numbers.seed numbers.sites numbers.custs _)

@@ -1,0 +1,547 @@
+-- What is due for the words of a run, and that it ends so, unless it is hindered.
+use Rattle.std.proofs.Common.{◌≡◌, ◌⊎◌, ℕ, ◌+◌, ◌^◌, ◌<◌, ◌≤◌, List, ◌++◌, length, Option, None, Some, Result, Ok, Err, sym, refl, ap, ◌∙◌, subst, inl, inr, arith}
+use Rattle.std.specs.Prelude.{if◌then◌else◌, nat_lt, Bool, true, false, MatchBool}
+use Rattle.std.specs.FinMap.{get}
+use Rattle.std.proofs.lemmas.Bool.{lt-ltb, cond-true, cond-false, false_from_ne_true, ltb-true}
+use Rattle.shelf_port.specs.Files.{MayHold}
+use Rattle.location_terms.specs.Instance.{Instance}
+use Rattle.fixed_cost.specs.declared.fault.FileFault.{FileFault}
+use Rattle.set_walk.specs.declared.TheConstants.{MAX_WALK_SITES}
+use Rattle.certificate_lines.specs.declared.limits.TheConstants.{MAX_CERTIFICATE_BYTES}
+use Rattle.certificate_lines.specs.declared.fault.CertFault.TheVariants.{Text, TooLong, ReadFailed}
+use Rattle.certificate_lines.specs.declared.fault.CertFault.TheVariants as unread
+use Rattle.certificate_check.specs.declared.verdict.Verdict.TheVariants.{Yes, No}
+use Rattle.certificate_check.specs.Verdict.{Answer, IsAnswer, IsDecided}
+use Rattle.certificate_check.proofs.Always.{some_answer}
+use Rattle.certificate_check.proofs.Decided.{answer_decided}
+use Rattle.certificate_check.proofs.One.{one_answer}
+use Rattle.certificate_check.proofs.Meaning.{accepted_yes_within}
+use Rattle.location_terms.specs.Certificate.{Certificate}
+use Rattle.location_terms.specs.Plan.{Plan}
+use Rattle.location_terms.specs.Tree.{Tree, nodes_of}
+use Rattle.location_terms.specs.declared.claim.Claim.{Claim}
+use Rattle.location_terms.specs.declared.claim.Claim.TheVariants as claimed
+use Rattle.tree_search.specs.Answer.{cost_in, most_decisions}
+use Rattle.dualoc_cli.proofs.Causes.{task_valid}
+use Rattle.dualoc_cli.proofs.Searching.{tree_small}
+use Rattle.certificate_lines.specs.Text.{certificate_text}
+use Rattle.fixed_cost.specs.declared.limits.TheConstants.{MAX_INSTANCE_BYTES}
+use Rattle.dualoc_cli.specs.declared.status.Status.{Status}
+use Rattle.dualoc_cli.specs.declared.status.Status.TheVariants.{Done, Infeasible, Bracket, CheckNo, Usage, BadInput, ReadFault, WriteFault, TooLarge, NoMemory}
+use Rattle.instance_forms.specs.Forms.{InstanceFile, meaning_in}
+use Rattle.dualoc_cli.specs.declared.reply.Reply.{Reply}
+use Rattle.dualoc_cli.specs.declared.reply.Reply.TheVariants.{NoCommand, Failed, Refused, Reached}
+use Rattle.dualoc_cli.specs.declared.reply.Port.{Port}
+use Rattle.dualoc_cli.specs.declared.reply.Port.TheVariants as port
+use Rattle.dualoc_cli.specs.declared.reply.Refusal.{Refusal}
+use Rattle.dualoc_cli.specs.declared.reply.Refusal.TheVariants.{LongInstance, Faulty, ManySites, LargeBudget, LongCertificate, LongLine, LongInput}
+use Rattle.dualoc_cli.specs.declared.reply.Outcome.{Outcome}
+use Rattle.dualoc_cli.specs.declared.reply.Outcome.TheVariants.{Optimum, Searched, Tried, Ascent, Misspelt, Judged, Converted, Ended}
+use Rattle.dualoc_cli.specs.Command.{Command, OnFile, OnTrial, ResultFiles, Job, SolveShort, SolveLong, ShowDuals, Check, Convert, Session, command_of}
+use Rattle.dualoc_cli.specs.Status.{when_cut}
+use Rattle.dualoc_cli.specs.Reply.{failed_status, refused_status, outcome_status, status_of, status_of_claim, text_of}
+use Rattle.dualoc_cli.specs.Run.{Run, AsksFor, HasTask, HasFileFault}
+use Rattle.dualoc_cli.specs.Solve.{HasManySites}
+use Rattle.dualoc_cli.specs.Search.{HasLargeBudget, IsSearched, IsEnd, EndsSearch}
+use Rattle.dualoc_cli.specs.Check.{IsAnswered, DeservesYes, IsChecked}
+use Rattle.dualoc_cli.specs.Session.{StopsAt, stop_status}
+use Rattle.dualoc_cli.specs.Trial.{HasTrial, HasPlan, IsTrialAnswer, EndsTrial}
+use Rattle.dualoc_cli.specs.Due.{PortFails, IsRefused, IsOutcomeOf, IsCause, IsPrinted, EndsWithoutMemory, EndsInRow, Ends, IsRefusalStatus, IsResult, IsSettledAtStart, IsTold, IsHindered, MemoryRanOut, PortFailed, OutputFailed, RowRefused, EndsAs, EndsAsInput, IsComplete}
+use Rattle.whatif_session.specs.Input.{session_limits, input_lines, is_ended_by_quit}
+use Rattle.whatif_session.specs.Run.{Stop, AtEnd, AtLongLine, AtLongInput, IsDueStop, MayGive, stop_at}
+use Rattle.tree_search.specs.Budget.{max_budget, budget_in}
+use Rattle.trial_instance.specs.Trial.{trial_meaning}
+
+-- a status after a write that failed is no result
+pub not_result : (due : Status) → IsResult (when_cut due) → ⊥
+not_result Done h = h
+not_result Infeasible h = h
+not_result Bracket h = h
+not_result CheckNo h = h
+not_result Usage h = h
+not_result BadInput h = h
+not_result ReadFault h = h
+not_result WriteFault h = h
+not_result TooLarge h = h
+not_result NoMemory h = h
+
+-- a refusal whose text was cut is a refusal
+pub uncut_refusal : (due : Status) → IsRefusalStatus (when_cut due) → IsRefusalStatus due
+uncut_refusal Done h = absurd h
+uncut_refusal Infeasible h = absurd h
+uncut_refusal Bracket h = absurd h
+uncut_refusal CheckNo h = absurd h
+uncut_refusal Usage h = tt
+uncut_refusal BadInput h = tt
+uncut_refusal ReadFault h = tt
+uncut_refusal WriteFault h = absurd h
+uncut_refusal TooLarge h = tt
+uncut_refusal NoMemory h = absurd h
+
+-- the status of an answer to a certificate
+status_in : Answer → Status
+status_in (Ok (Yes claim)) = Done
+status_in (Ok (No line why)) = CheckNo
+status_in (Err (Text kind line)) = CheckNo
+status_in (Err TooLong) = TooLarge
+status_in (Err ReadFailed) = ReadFault
+status_in (Err unread.NoMemory) = NoMemory
+
+not_above : (a b : ℕ) → a ≤ b → nat_lt b a ≡ false
+not_above a b h = false_from_ne_true (nat_lt b a) (λ e. let above : b < a = ltb-true b a e in omega arith)
+
+-- what is due: a status, that a search with a budget ends, that a trial does, or that a session ends as its input says
+data Due : Type 0 where
+  Exactly : Status → Due
+  Search : (I : Instance) (budget : ℕ) → Due
+  Trial : (I : Instance) (budget : ℕ) → Due
+  AsInput : Due
+
+-- an input that is told ends a session so; one that isn't may end it in each way
+abbrev MayEnd : Option (List ℕ) → Stop → Type 0
+MayEnd None stop = Unit {0}
+MayEnd (Some bytes) stop = IsDueStop session_limits bytes stop
+
+given_end : (told : Option (List ℕ)) (bytes : List ℕ) (stop : Stop) → MayGive told bytes → IsDueStop session_limits bytes stop → MayEnd told stop
+given_end None bytes stop given due = tt
+given_end (Some other) bytes stop given due = subst (λ b. IsDueStop session_limits b stop) (sym given) due
+
+-- there is one way, and only one where the input is told
+stop_by : (quit : Bool) (other : Stop) → (stop : Stop) × MatchBool quit (stop ≡ AtEnd) (stop ≡ other)
+stop_by true other = (AtEnd, refl)
+stop_by false other = (other, refl)
+
+some_end : (told : Option (List ℕ)) → (stop : Stop) × MayEnd told stop
+some_end None = (AtEnd, tt)
+some_end (Some bytes) = stop_by (is_ended_by_quit session_limits bytes) (stop_at (input_lines session_limits bytes).ends)
+
+stop_once : (quit : Bool) (other one two : Stop) → MatchBool quit (one ≡ AtEnd) (one ≡ other) → MatchBool quit (two ≡ AtEnd) (two ≡ other) → one ≡ two
+stop_once true other one two p q = p ∙ sym q
+stop_once false other one two p q = p ∙ sym q
+
+-- the status suits what is due, of an input of which this is told
+abbrev Suits : Option (List ℕ) → Due → Status → Type 0
+Suits input (Exactly due) status = status ≡ due
+Suits input (Search I budget) status = (status ≡ Done) ⊎ ((status ≡ Infeasible) ⊎ ((status ≡ Bracket) × (budget < 2 ^ (most_decisions I + 1))))
+Suits input (Trial I budget) status = (status ≡ Done) ⊎ ((status ≡ Bracket) × (budget < 2 ^ (most_decisions I + 1)))
+Suits input AsInput status = (stop : Stop) × MayEnd input stop × (status ≡ stop_status stop)
+
+some_suits : (input : Option (List ℕ)) (due : Due) → (status : Status) × Suits input due status
+some_suits input (Exactly due) = (due, refl)
+some_suits input (Search I budget) = (Done, inl refl)
+some_suits input (Trial I budget) = (Done, inl refl)
+some_suits input AsInput = let ends = some_end input in (stop_status ends.0, (ends.0, ends.1, refl))
+
+module _ (r : Run) where
+  pub no_command : (command : Command) → command_of r.words ≡ None → command_of r.words ≡ Some command → ⊥
+  no_command command none some = let e : None ≡ Some command = sym none ∙ some in cc
+
+  task_words : {S : Type 0} (job : Job) (I : Instance) → HasTask r job I → S ⊎ ((command : Command) × (command_of r.words ≡ Some command))
+  task_words job I task = inr (OnFile task.file job, task.asked.words_are)
+
+  -- a reply is to a command, but for the one to words that are none
+  port_words : {S : Type 0} (at : Port) → PortFails r at → S ⊎ ((command : Command) × (command_of r.words ≡ Some command))
+  port_words port.Instance cause = inr (OnFile cause.file cause.job, cause.words_are)
+  port_words port.Certificate cause = task_words (Check cause.name) cause.instance cause.task
+  port_words port.Result cause = task_words (SolveLong cause.into cause.result.asked.given) cause.instance cause.result.asked.task
+  port_words port.New cause = task_words (Convert cause.new) cause.begun.instance cause.begun.task
+  port_words port.Input cause = task_words Session cause.1.instance cause.1.task
+
+  refused_words : {S : Type 0} (refusal : Refusal) → IsRefused r refusal → S ⊎ ((command : Command) × (command_of r.words ≡ Some command))
+  refused_words LongInstance cause = inr (OnFile cause.file cause.job, cause.asked.words_are)
+  refused_words (Faulty fault) cause = inr (OnFile cause.file cause.job, cause.asked.words_are)
+  refused_words ManySites cause = task_words SolveShort cause.instance cause.task
+  refused_words LargeBudget cause = task_words (SolveLong cause.into (Some cause.budget)) cause.instance cause.task
+  refused_words LongCertificate cause = task_words (Check cause.name) cause.instance cause.task
+  refused_words LongLine cause = task_words Session cause.1.instance cause.1.task
+  refused_words LongInput cause = task_words Session cause.1.instance cause.1.task
+
+  reached_words : {S : Type 0} (outcome : Outcome) → IsOutcomeOf r outcome → S ⊎ ((command : Command) × (command_of r.words ≡ Some command))
+  reached_words (Optimum I P cost) cause = task_words SolveShort I cause.task
+  reached_words (Searched claim nodes budget) cause = task_words (SolveLong cause.into cause.result.asked.given) cause.instance cause.result.asked.task
+  reached_words (Tried claim nodes budget opened) cause = inr (OnTrial cause.trial.seed cause.trial.sites cause.trial.customers, cause.trial.words_are)
+  reached_words (Ascent I d) cause = task_words ShowDuals I cause.task
+  reached_words (Misspelt kind line) cause = task_words (Check cause.name) cause.instance cause.task
+  reached_words (Judged (Yes claim)) cause = task_words (Check cause.name) cause.instance cause.task
+  reached_words (Judged (No line why)) cause = task_words (Check cause.name) cause.instance cause.task
+  reached_words (Converted m n) cause = task_words (Convert cause.new) cause.instance cause.task
+  reached_words Ended cause = task_words Session cause.1.instance cause.1.task
+
+  pub words_are : (reply : Reply) → IsCause r reply → (status_of reply ≡ Usage) ⊎ ((command : Command) × (command_of r.words ≡ Some command))
+  words_are NoCommand cause = inl refl
+  words_are (Failed at) cause = port_words at cause
+  words_are (Refused refusal) cause = refused_words refusal cause
+  words_are (Reached outcome) cause = reached_words outcome cause
+
+  -- what is due for an instance
+  abbrev Worked : Job → Instance → Due → Type 0
+  Worked SolveShort I due = due ≡ (if nat_lt MAX_WALK_SITES (length I.sites) then Exactly TooLarge else Exactly Done)
+  Worked (SolveLong into given) I due = due ≡ (if nat_lt (max_budget I) (budget_in I given) then Exactly TooLarge else Search I (budget_in I given))
+  Worked ShowDuals I due = due ≡ Exactly Done
+  Worked (Check name) I due =
+      (bytes : List ℕ) × MayHold r.before.shelf.files name bytes × ((answer : Answer) × IsAnswer MAX_CERTIFICATE_BYTES I bytes answer × (due ≡ Exactly (status_in answer)))
+  Worked (Convert new) I due = due ≡ Exactly Done
+  Worked Session I due = due ≡ AsInput
+
+  abbrev Meant : Job → Result Instance FileFault → Due → Type 0
+  Meant job (Ok I) due = Worked job I due
+  Meant job (Err fault) due = due ≡ Exactly BadInput
+
+  -- what is due for the bytes of an instance's file
+  abbrev Read : InstanceFile → Job → List ℕ → Due → Type 0
+  Read file job bytes due =
+      ((MAX_INSTANCE_BYTES < length bytes) × (due ≡ Exactly TooLarge))
+      ⊎ ((length bytes ≤ MAX_INSTANCE_BYTES) × Meant job (meaning_in file bytes) due)
+
+  abbrev told_input : Option (List ℕ)
+  told_input = r.before.input.left
+
+  -- what is due for the words, where nothing fails
+  abbrev IsDue : Due → Type 0
+  IsDue due =
+      ((command_of r.words ≡ None) × (due ≡ Exactly Usage))
+      ⊎ (((file : InstanceFile) × (job : Job) × (bytes : List ℕ) × AsksFor r file job bytes × Read file job bytes due)
+      ⊎ ((I : Instance) × HasTrial r I × (due ≡ Trial I (budget_in I None))))
+
+  -- a read or a write of a file failed, and the status says so
+  abbrev Fails : Status → Type 0
+  Fails status = (at : Port) × PortFails r at × (status ≡ failed_status at)
+
+  meant : (job : Job) (meaning : Result Instance FileFault) (I : Instance) (due : Due) → meaning ≡ Ok I → Worked job I due → Meant job meaning due
+  meant job meaning I due means worked = subst (λ m. Meant job m due) (sym means) worked
+
+  -- what is due for a job on an instance is due
+  task_is_due : (job : Job) (I : Instance) (due : Due) → HasTask r job I → Worked job I due → IsDue due
+  task_is_due job I due task worked =
+      inr (inl (task.file, job, task.bytes, task.asked, inr (task.within, meant job _ I due task.means worked)))
+
+  answer_is_due : (answer : Answer) → IsAnswered r answer → IsDue (Exactly (status_in answer))
+  answer_is_due answer a =
+      task_is_due (Check a.name) a.instance (Exactly (status_in answer)) a.task (a.bytes, a.held, (answer, a.answered, refl))
+
+  many_is_due : HasManySites r → IsDue (Exactly TooLarge)
+  many_is_due a =
+      task_is_due SolveShort a.instance (Exactly TooLarge) a.task
+      (sym (cond-true (nat_lt MAX_WALK_SITES (length a.instance.sites)) (Exactly TooLarge) (Exactly Done) (lt-ltb MAX_WALK_SITES (length a.instance.sites) a.many)))
+
+  few_is_due : (I : Instance) → HasTask r SolveShort I → length I.sites ≤ MAX_WALK_SITES → IsDue (Exactly Done)
+  few_is_due I task few =
+      task_is_due SolveShort I (Exactly Done) task
+      (sym (cond-false (nat_lt MAX_WALK_SITES (length I.sites)) (Exactly TooLarge) (Exactly Done) (not_above (length I.sites) MAX_WALK_SITES few)))
+
+  large_is_due : HasLargeBudget r → IsDue (Exactly TooLarge)
+  large_is_due a =
+      task_is_due (SolveLong a.into (Some a.budget)) a.instance (Exactly TooLarge) a.task
+      (sym (cond-true (nat_lt (max_budget a.instance) a.budget) (Exactly TooLarge) (Search a.instance a.budget) (lt-ltb (max_budget a.instance) a.budget a.large)))
+
+  search_is_due : (into : ResultFiles) (given : Option ℕ) (I : Instance) → HasTask r (SolveLong into given) I → budget_in I given ≤ max_budget I → IsDue (Search I (budget_in I given))
+  search_is_due into given I task within =
+      task_is_due (SolveLong into given) I (Search I (budget_in I given)) task
+      (sym (cond-false (nat_lt (max_budget I) (budget_in I given)) (Exactly TooLarge) (Search I (budget_in I given)) (not_above (budget_in I given) (max_budget I) within)))
+
+  duals_are_due : (I : Instance) → HasTask r ShowDuals I → IsDue (Exactly Done)
+  duals_are_due I task = task_is_due ShowDuals I (Exactly Done) task refl
+
+  conversion_is_due : (new : List ℕ) (I : Instance) → HasTask r (Convert new) I → IsDue (Exactly Done)
+  conversion_is_due new I task = task_is_due (Convert new) I (Exactly Done) task refl
+
+  session_is_due : (I : Instance) → HasTask r Session I → IsDue AsInput
+  session_is_due I task = task_is_due Session I AsInput task refl
+
+  fault_is_due : (fault : FileFault) → HasFileFault r fault → IsDue (Exactly BadInput)
+  fault_is_due fault a =
+      inr (inl (a.file, a.job, a.bytes, a.asked, inr (a.within, subst (λ m. Meant a.job m (Exactly BadInput)) (sym a.means) refl)))
+
+  -- an accepted certificate's yes is due
+  accepted_is_due : (I : Instance) (name : List ℕ) (cert : Certificate) → HasTask r (Check name) I → DeservesYes I cert
+      → MayHold r.before.shelf.files name (certificate_text I cert) → IsDue (Exactly Done)
+  unfolding status_in
+  accepted_is_due I name cert task deserved held =
+      task_is_due (Check name) I (Exactly Done) task
+      (certificate_text I cert, held, (Ok (Yes cert.claim), accepted_yes_within MAX_CERTIFICATE_BYTES I cert (task_valid r (Check name) I task) deserved.accepted deserved.small deserved.within, refl))
+
+  -- the status of a claim is one that a search ends with; its tree is small, and with a bracket so is its budget
+  claim_suits : (I : Instance) (budget : ℕ) (claim : Claim) (plan : Option Plan) (tree : Tree) (made : ℕ) → IsEnd I budget claim plan tree made
+      → nodes_of tree ≡ 1 + made → nodes_of tree + 1 ≤ 2 ^ (most_decisions I + 1) → Suits told_input (Search I budget) (status_of_claim claim)
+  claim_suits I budget (claimed.Optimal cost) plan tree made end nodes small = inl refl
+  claim_suits I budget claimed.Infeasible plan tree made end nodes small = inr (inl refl)
+  claim_suits I budget (claimed.Bracket low high) plan tree made end nodes small = let spent = end.spent in inr (inr (refl, omega (arith, small, nodes, spent)))
+
+  stored_suits : (claim : Claim) (nodes budget : ℕ) (a : IsSearched r claim nodes budget) → Suits told_input (Search a.instance budget) (status_of_claim claim)
+  stored_suits claim nodes budget a =
+      let found = a.result.found in
+      claim_suits a.instance budget claim a.cert.plan a.cert.tree found.made (subst (λ c. IsEnd a.instance budget c a.cert.plan a.cert.tree found.made) a.claims found.end)
+      found.nodes_are (tree_small a.instance (cost_in a.instance a.cert.plan) a.cert.tree found.grown)
+
+  stored_is_due : (claim : Claim) (nodes budget : ℕ) (a : IsSearched r claim nodes budget) → IsDue (Search a.instance budget)
+  stored_is_due claim nodes budget a =
+      let asked = a.result.asked in
+      subst (λ b. IsDue (Search a.instance b)) (sym asked.in_force)
+      (search_is_due a.into asked.given a.instance asked.task (subst (λ b. b ≤ max_budget a.instance) asked.in_force asked.within))
+
+  trial_is_due : (I : Instance) → HasTrial r I → IsDue (Trial I (budget_in I None))
+  trial_is_due I trial = inr (inr (I, trial, refl))
+
+  -- a claim that comes with a plan is one that a trial ends with
+  planned_suits : (I : Instance) (budget : ℕ) (claim : Claim) (P : Plan) (plan : Option Plan) (tree : Tree) (made : ℕ) → HasPlan I claim P → IsEnd I budget claim plan tree made
+      → nodes_of tree ≡ 1 + made → nodes_of tree + 1 ≤ 2 ^ (most_decisions I + 1) → Suits told_input (Trial I budget) (status_of_claim claim)
+  planned_suits I budget (claimed.Optimal cost) P plan tree made has end nodes small = inl refl
+  planned_suits I budget claimed.Infeasible P plan tree made has end nodes small = absurd has
+  planned_suits I budget (claimed.Bracket low high) P plan tree made has end nodes small = let spent = end.spent in inr (refl, omega (arith, small, nodes, spent))
+
+  tried_suits : (claim : Claim) (nodes budget opened : ℕ) (a : IsTrialAnswer r claim nodes budget opened) → Suits told_input (Trial a.instance budget) (status_of_claim claim)
+  tried_suits claim nodes budget opened a =
+      let found = a.found in
+      planned_suits a.instance budget claim a.plan a.cert.plan a.cert.tree found.made a.has_plan (subst (λ c. IsEnd a.instance budget c a.cert.plan a.cert.tree found.made) a.claims found.end)
+      found.nodes_are (tree_small a.instance (cost_in a.instance a.cert.plan) a.cert.tree found.grown)
+
+  tried_is_due : (claim : Claim) (nodes budget opened : ℕ) (a : IsTrialAnswer r claim nodes budget opened) → IsDue (Trial a.instance budget)
+  tried_is_due claim nodes budget opened a = subst (λ b. IsDue (Trial a.instance b)) (sym a.in_force) (trial_is_due a.instance a.trial)
+
+  -- what a command came to suits what is due
+  abbrev SuitsDue : Status → Type 0
+  SuitsDue status = (due : Due) × IsDue due × Suits told_input due status
+
+  -- a session that its input ended
+  ended_suits : (stop : Stop) (at : StopsAt r stop) → IsDueStop session_limits at.1.run.bytes stop → SuitsDue (stop_status stop)
+  ended_suits stop at due = (AsInput, session_is_due at.1.instance at.1.task, (stop, given_end told_input at.1.run.bytes stop at.1.run.given due, refl))
+
+  -- a refusal has its own status due
+  refused_is_due : (refusal : Refusal) → IsRefused r refusal → SuitsDue (refused_status refusal)
+  unfolding status_in
+  refused_is_due LongInstance cause = (Exactly TooLarge, inr (inl (cause.file, cause.job, cause.bytes, cause.asked, inl (cause.beyond, refl))), refl)
+  refused_is_due (Faulty fault) cause = (Exactly BadInput, fault_is_due fault cause, refl)
+  refused_is_due ManySites cause = (Exactly TooLarge, many_is_due cause, refl)
+  refused_is_due LargeBudget cause = (Exactly TooLarge, large_is_due cause, refl)
+  refused_is_due LongCertificate cause = (Exactly TooLarge, answer_is_due (Err TooLong) cause, refl)
+  refused_is_due LongLine cause = ended_suits AtLongLine cause cause.1.run.stops.0
+  refused_is_due LongInput cause = ended_suits AtLongInput cause cause.1.run.stops.0
+
+  reached_is_due : (outcome : Outcome) → IsOutcomeOf r outcome → SuitsDue (outcome_status outcome)
+  unfolding status_in
+  reached_is_due (Optimum I P cost) cause = (Exactly Done, few_is_due I cause.task cause.few, refl)
+  reached_is_due (Searched claim nodes budget) cause = (Search cause.instance budget, stored_is_due claim nodes budget cause, stored_suits claim nodes budget cause)
+  reached_is_due (Tried claim nodes budget opened) cause = (Trial cause.instance budget, tried_is_due claim nodes budget opened cause, tried_suits claim nodes budget opened cause)
+  reached_is_due (Ascent I d) cause = (Exactly Done, duals_are_due I cause.task, refl)
+  reached_is_due (Misspelt kind line) cause = (Exactly CheckNo, answer_is_due (Err (Text kind line)) cause, refl)
+  reached_is_due (Judged (Yes claim)) cause = (Exactly Done, accepted_is_due cause.instance cause.name cause.cert cause.task cause.deserved cause.held, refl)
+  reached_is_due (Judged (No line why)) cause = (Exactly CheckNo, answer_is_due (Ok (No line why)) cause, refl)
+  reached_is_due (Converted m n) cause = (Exactly Done, conversion_is_due cause.new cause.instance cause.task, refl)
+  reached_is_due Ended cause = ended_suits AtEnd cause cause.1.run.stops.0
+
+  abbrev HasDue : Status → Type 0
+  HasDue status = SuitsDue status ⊎ Fails status
+
+  -- a cause gives the status of its reply, or is a read or a write that failed
+  cause_is_due : (reply : Reply) → IsCause r reply → HasDue (status_of reply)
+  cause_is_due NoCommand cause = inl (Exactly Usage, inl (cause, refl), refl)
+  cause_is_due (Failed at) cause = inr (at, cause, refl)
+  cause_is_due (Refused refusal) cause = inl (refused_is_due refusal cause)
+  cause_is_due (Reached outcome) cause = inl (reached_is_due outcome cause)
+
+  -- a reply that is settled has its own status due
+  settled_is_due : (reply : Reply) → IsCause r reply → IsSettledAtStart reply → IsDue (Exactly (status_of reply))
+  unfolding status_in
+  settled_is_due NoCommand cause sure = inl (cause, refl)
+  settled_is_due (Failed at) cause sure = absurd sure
+  settled_is_due (Refused LongInstance) cause sure = inr (inl (cause.file, cause.job, cause.bytes, cause.asked, inl (cause.beyond, refl)))
+  settled_is_due (Refused (Faulty fault)) cause sure = fault_is_due fault cause
+  settled_is_due (Refused ManySites) cause sure = many_is_due cause
+  settled_is_due (Refused LargeBudget) cause sure = large_is_due cause
+  settled_is_due (Refused LongCertificate) cause sure = answer_is_due (Err TooLong) cause
+  settled_is_due (Refused LongLine) cause sure = absurd sure
+  settled_is_due (Refused LongInput) cause sure = absurd sure
+  settled_is_due (Reached (Optimum I P cost)) cause sure = few_is_due I cause.task cause.few
+  settled_is_due (Reached (Searched claim nodes budget)) cause sure = absurd sure
+  settled_is_due (Reached (Tried claim nodes budget opened)) cause sure = absurd sure
+  settled_is_due (Reached (Ascent I d)) cause sure = duals_are_due I cause.task
+  settled_is_due (Reached (Misspelt kind line)) cause sure = answer_is_due (Err (Text kind line)) cause
+  settled_is_due (Reached (Judged (Yes claim))) cause sure = accepted_is_due cause.instance cause.name cause.cert cause.task cause.deserved cause.held
+  settled_is_due (Reached (Judged (No line why))) cause sure = answer_is_due (Ok (No line why)) cause
+  settled_is_due (Reached (Converted m n)) cause sure = conversion_is_due cause.new cause.instance cause.task
+  settled_is_due (Reached Ended) cause sure = absurd sure
+
+  -- the status is that of want of memory
+  pub ran_out : (status : Status) → EndsWithoutMemory r status → status ≡ NoMemory
+  ran_out status out =
+      elim out.printed [
+        | inl whole ↦ whole.status_is
+        | inr front ↦ elim front.status_is [ inl cut ↦ cut.1 | inr ran ↦ ran ]
+      ]
+
+  -- Where the files are told, one status is due.
+  module _ (told : IsTold r) where
+    same_bytes : (name a b : List ℕ) → MayHold r.before.shelf.files name a → MayHold r.before.shelf.files name b → a ≡ b
+    same_bytes name a b p q =
+        let here : get told.0 name ≡ Some a = subst (λ t. MayHold t name a) told.1 p in
+        let there : get told.0 name ≡ Some b = subst (λ t. MayHold t name b) told.1 q in
+        let both : Some a ≡ Some b = sym here ∙ there in
+        cc
+
+    worked_once : (job : Job) (I : Instance) (s t : Due) → Worked job I s → Worked job I t → s ≡ t
+    worked_once SolveShort I s t p q = p ∙ sym q
+    worked_once (SolveLong into given) I s t p q = p ∙ sym q
+    worked_once ShowDuals I s t p q = p ∙ sym q
+    worked_once (Check name) I s t p q =
+        let same : q.0 ≡ p.0 = same_bytes name q.0 p.0 q.1 p.1 in
+        let once : p.2.0 ≡ q.2.0 = one_answer MAX_CERTIFICATE_BYTES I p.0 p.2.0 q.2.0 p.2.1 (subst (λ bytes. IsAnswer MAX_CERTIFICATE_BYTES I bytes q.2.0) same q.2.1) in
+        p.2.2 ∙ ap (λ answer. Exactly (status_in answer)) once ∙ sym q.2.2
+    worked_once (Convert new) I s t p q = p ∙ sym q
+    worked_once Session I s t p q = p ∙ sym q
+
+    meant_once : (job : Job) (meaning : Result Instance FileFault) (s t : Due) → Meant job meaning s → Meant job meaning t → s ≡ t
+    meant_once job (Ok I) s t p q = worked_once job I s t p q
+    meant_once job (Err fault) s t p q = p ∙ sym q
+
+    read_once : (file : InstanceFile) (job : Job) (bytes : List ℕ) (s t : Due) → Read file job bytes s → Read file job bytes t → s ≡ t
+    read_once file job bytes s t (inl p) (inl q) = p.1 ∙ sym q.1
+    read_once file job bytes s t (inl p) (inr q) = absurd (omega (arith, p.0, q.0))
+    read_once file job bytes s t (inr p) (inl q) = absurd (omega (arith, p.0, q.0))
+    read_once file job bytes s t (inr p) (inr q) = meant_once job _ s t p.1 q.1
+
+    -- words that name a file and words of a trial
+    not_both : (file : InstanceFile) (job : Job) (I : Instance) → command_of r.words ≡ Some (OnFile file job) → HasTrial r I → ⊥
+    not_both file job I named trial =
+        let both : Some (OnFile file job) ≡ Some (OnTrial trial.seed trial.sites trial.customers) = sym named ∙ trial.words_are in
+        cc
+
+    one_trial : (I J : Instance) → HasTrial r I → HasTrial r J → I ≡ J
+    one_trial I J p q =
+        let both : Some (OnTrial p.seed p.sites p.customers) ≡ Some (OnTrial q.seed q.sites q.customers) = sym p.words_are ∙ q.words_are in
+        let seed : p.seed ≡ q.seed = cc in
+        let sites : p.sites ≡ q.sites = cc in
+        let customers : p.customers ≡ q.customers = cc in
+        let same : trial_meaning p.seed p.sites p.customers ≡ trial_meaning q.seed q.sites q.customers = rw (seed, sites, customers) refl in
+        p.instance_is ∙ same ∙ sym q.instance_is
+
+    due_once : (s t : Due) → IsDue s → IsDue t → s ≡ t
+    due_once s t (inl p) (inl q) = p.1 ∙ sym q.1
+    due_once s t (inl p) (inr (inl q)) = absurd (no_command (OnFile q.0 q.1) p.0 q.3.words_are)
+    due_once s t (inl p) (inr (inr q)) = absurd (no_command (OnTrial q.1.seed q.1.sites q.1.customers) p.0 q.1.words_are)
+    due_once s t (inr (inl p)) (inl q) = absurd (no_command (OnFile p.0 p.1) q.0 p.3.words_are)
+    due_once s t (inr (inr p)) (inl q) = absurd (no_command (OnTrial p.1.seed p.1.sites p.1.customers) q.0 p.1.words_are)
+    due_once s t (inr (inl p)) (inr (inr q)) = absurd (not_both p.0 p.1 q.0 p.3.words_are q.1)
+    due_once s t (inr (inr p)) (inr (inl q)) = absurd (not_both q.0 q.1 p.0 q.3.words_are p.1)
+    due_once s t (inr (inr p)) (inr (inr q)) = p.2 ∙ ap (λ I. Trial I (budget_in I None)) (one_trial p.0 q.0 p.1 q.1) ∙ sym q.2
+    due_once s t (inr (inl p)) (inr (inl q)) =
+        let both : Some (OnFile q.0 q.1) ≡ Some (OnFile p.0 p.1) = sym q.3.words_are ∙ p.3.words_are in
+        let file : q.0 ≡ p.0 = cc in
+        let job : q.1 ≡ p.1 = cc in
+        let bytes : q.2 ≡ p.2 = same_bytes p.0.name q.2 p.2 (subst (λ f. MayHold r.before.shelf.files f.name q.2) file q.3.held) p.3.held in
+        read_once p.0 p.1 p.2 s t p.4 (subst (λ b. Read p.0 p.1 b t) bytes (subst (λ j. Read p.0 j q.2 t) job (subst (λ f. Read f q.1 q.2 t) file q.4)))
+
+    failed : (due before status : Status) → Fails before → status ≡ before → IsHindered r due status
+    failed due before status a is = PortFailed a.0 a.1 (is ∙ a.2)
+
+    port_cut : (at : Port) → when_cut (failed_status at) ≡ failed_status at
+    port_cut port.Instance = refl
+    port_cut port.Certificate = refl
+    port_cut port.Result = refl
+    port_cut port.New = refl
+    port_cut port.Input = refl
+
+    fails_cut : (before : Status) → Fails before → when_cut before ≡ before
+    fails_cut before a = ap when_cut a.2 ∙ port_cut a.0 ∙ sym a.2
+
+    -- a status that suits what is due, or the run is hindered from it
+    abbrev EndsDue : Due → Status → Type 0
+    EndsDue due status = (other : Status) × Suits told_input due other × EndsAs r other status
+
+    hindered : (due : Due) (status : Status) → ((other : Status) → IsHindered r other status) → EndsDue due status
+    hindered due status is = let some = some_suits told_input due in (some.0, some.1, inr (is some.0))
+
+    -- a reply whose status suits what is due was printed
+    printed_suits : (due : Due) (row text : List ℕ) (before status : Status) → Suits told_input due before → IsPrinted row text before status r.before.output r.after.output → EndsDue due status
+    printed_suits due row text before status suits (inl whole) = (before, suits, inl whole.status_is)
+    printed_suits due row text before status suits (inr front) =
+        (before, suits, elim front.status_is [ inl cut ↦ inr (OutputFailed cut.0 cut.1) | inr out ↦ inr (MemoryRanOut out) ])
+
+    printed_fails : (other before status : Status) (row text : List ℕ) → Fails before → IsPrinted row text before status r.before.output r.after.output → IsHindered r other status
+    printed_fails other before status row text fails (inl whole) = failed other before status fails whole.status_is
+    printed_fails other before status row text fails (inr front) =
+        elim front.status_is [
+          | inl cut ↦ failed other before status fails (cut.1 ∙ fails_cut before fails)
+          | inr out ↦ MemoryRanOut out
+        ]
+
+    cut_in_row : (other status : Status) → EndsInRow r status → IsHindered r other status
+    cut_in_row other status a = elim a.printed.status_is [ inl cut ↦ RowRefused (a.done ++ a.reply, a.row_is) cut.0 cut.1 | inr out ↦ MemoryRanOut out ]
+
+    -- so a run ends as is due, unless it is hindered
+    ends_as_due : (due : Due) (status : Status) → IsDue due → Ends r status → EndsDue due status
+    ends_as_due due status is (inl a) =
+        elim (cause_is_due a.reply a.cause) [
+          | inl other ↦ printed_suits due a.row (text_of a.reply) (status_of a.reply) status (subst (λ o. Suits told_input o (status_of a.reply)) (due_once other.0 due other.1 is) other.2) a.printed
+          | inr fails ↦ hindered due status (λ other. printed_fails other (status_of a.reply) status a.row (text_of a.reply) fails a.printed)
+        ]
+    ends_as_due due status is (inr (inl out)) = hindered due status (λ other. MemoryRanOut (ran_out status out))
+    ends_as_due due status is (inr (inr cut)) = hindered due status (λ other. cut_in_row other status cut)
+
+    exactly : (due status : Status) → EndsDue (Exactly due) status → EndsAs r due status
+    exactly due status ends = subst (λ d. EndsAs r d status) ends.1 ends.2
+
+    pub exact : (status : Status) → Ends r status → (reply : Reply) → IsCause r reply → IsSettledAtStart reply → EndsAs r (status_of reply) status
+    exact status ends reply cause sure = exactly (status_of reply) status (ends_as_due (Exactly (status_of reply)) status (settled_is_due reply cause sure) ends)
+
+    -- what hinders one result hinders the other
+    alike : (one two status : Status) → when_cut one ≡ when_cut two → IsHindered r one status → IsHindered r two status
+    alike one two status same (MemoryRanOut out) = MemoryRanOut out
+    alike one two status same (PortFailed at fails is) = PortFailed at fails is
+    alike one two status same (OutputFailed rose is) = OutputFailed rose (is ∙ same)
+    alike one two status same (RowRefused at rose is) = RowRefused at rose is
+
+    search_ends : (I : Instance) (budget : ℕ) (status : Status) → EndsDue (Search I budget) status → EndsSearch (λ due. EndsAs r due status) I budget status
+    search_ends I budget status (other, inl is, ends) = inl (subst (λ d. EndsAs r d status) is ends)
+    search_ends I budget status (other, inr (inl is), inl same) = inr (inl (same ∙ is))
+    search_ends I budget status (other, inr (inl is), inr h) = inl (inr (alike other Done status (ap when_cut is) h))
+    search_ends I budget status (other, inr (inr is), inl same) = inr (inr (same ∙ is.0, is.1))
+    search_ends I budget status (other, inr (inr is), inr h) = inl (inr (alike other Done status (ap when_cut is.0) h))
+
+    trial_ends : (I : Instance) (budget : ℕ) (status : Status) → EndsDue (Trial I budget) status → EndsTrial (λ due. EndsAs r due status) I budget status
+    trial_ends I budget status (other, inl is, ends) = inl (subst (λ d. EndsAs r d status) is ends)
+    trial_ends I budget status (other, inr is, inl same) = inr (same ∙ is.0, is.1)
+    trial_ends I budget status (other, inr is, inr h) = inl (inr (alike other Done status (ap when_cut is.0) h))
+
+    pub tried : (status : Status) → Ends r status → (I : Instance) → HasTrial r I → EndsTrial (λ due. EndsAs r due status) I (budget_in I None) status
+    tried status ends I trial = trial_ends I (budget_in I None) status (ends_as_due (Trial I (budget_in I None)) status (trial_is_due I trial) ends)
+
+    input_ends : (status : Status) (told : Option (List ℕ)) → told ≡ told_input → EndsDue AsInput status → EndsAsInput (λ due. EndsAs r due status) told
+    input_ends status None same ends = tt
+    input_ends status (Some bytes) same ends =
+        λ stop due.
+        let may : IsDueStop session_limits bytes ends.1.0 = subst (λ t. MayEnd t ends.1.0) (sym same) ends.1.1 in
+        let once : ends.1.0 ≡ stop = stop_once (is_ended_by_quit session_limits bytes) (stop_at (input_lines session_limits bytes).ends) ends.1.0 stop may due in
+        subst (λ d. EndsAs r d status) (ends.1.2 ∙ ap stop_status once) ends.2
+
+    -- what hinders a yes hinders a no
+    no_hindered : (status : Status) → EndsAs r Done status → (status ≡ Done) ⊎ EndsAs r CheckNo status
+    no_hindered status (inl done) = inl done
+    no_hindered status (inr h) = inr (inr (alike Done CheckNo status refl h))
+
+    said : (status : Status) (bytes : List ℕ) (answer : Answer) → length bytes ≤ MAX_CERTIFICATE_BYTES → IsDecided MAX_CERTIFICATE_BYTES bytes answer
+        → EndsAs r (status_in answer) status → (status ≡ Done) ⊎ EndsAs r CheckNo status
+    unfolding status_in
+    said status bytes (Ok (Yes claim)) within decided ends = no_hindered status ends
+    said status bytes (Ok (No line why)) within decided ends = inr ends
+    said status bytes (Err (Text kind line)) within decided ends = inr ends
+    said status bytes (Err TooLong) within decided ends = absurd (omega (arith, within, decided))
+    said status bytes (Err ReadFailed) within decided ends = absurd decided
+    said status bytes (Err unread.NoMemory) within decided ends = absurd decided
+
+    checked : (status : Status) → Ends r status → (name : List ℕ) (I : Instance) → HasTask r (Check name) I → IsChecked r (λ due. EndsAs r due status) name I status
+    checked status ends name I task =
+        record {
+          accepted = λ cert deserved held. exactly Done status (ends_as_due (Exactly Done) status (accepted_is_due I name cert task deserved held) ends);
+          otherwise = λ bytes held within.
+              let found = some_answer MAX_CERTIFICATE_BYTES I bytes (task_valid r (Check name) I task) in
+              said status bytes found.0 within (answer_decided MAX_CERTIFICATE_BYTES I bytes found.0 found.1)
+              (exactly (status_in found.0) status (ends_as_due (Exactly (status_in found.0)) status (task_is_due (Check name) I (Exactly (status_in found.0)) task (bytes, held, (found.0, found.1, refl))) ends));
+        }
+
+    pub complete : (status : Status) → Ends r status → (job : Job) (I : Instance) → HasTask r job I → IsComplete r job I status
+    complete status ends SolveShort I task = λ few. exactly Done status (ends_as_due (Exactly Done) status (few_is_due I task few) ends)
+    complete status ends (SolveLong into given) I task = λ within. search_ends I (budget_in I given) status (ends_as_due (Search I (budget_in I given)) status (search_is_due into given I task within) ends)
+    complete status ends ShowDuals I task = exactly Done status (ends_as_due (Exactly Done) status (duals_are_due I task) ends)
+    complete status ends (Check name) I task = checked status ends name I task
+    complete status ends (Convert new) I task = exactly Done status (ends_as_due (Exactly Done) status (conversion_is_due new I task) ends)
+    complete status ends Session I task = input_ends status told_input refl (ends_as_due AsInput status (session_is_due I task) ends)

@@ -1,0 +1,156 @@
+-- Parts of runs, over all runs that ask so.
+use Rattle.std.proofs.Common.{◌≡◌, ℕ, List, None, Some, Result, Ok, Err, refl, sym, ap, ◌∙◌, subst, arith}
+use Rattle.std.specs.Prelude.{IfOk, IfErr}
+use Rattle.shelf_port.specs.Files.{NeverFalls, Rose}
+use Rattle.shelf_port.specs.Ports.{SinkState, Ports, ports_of}
+use Rattle.location_terms.specs.Instance.{Instance}
+use Rattle.fixed_cost.specs.declared.fault.FileFault.{FileFault}
+use Rattle.instance_forms.specs.Forms.{InstanceFile}
+use Rattle.instance_forms.specs.Reading.{HasMeaning, IsLong}
+use Rattle.whatif_session.specs.Input.{session_limits}
+use Rattle.dualoc_cli.specs.declared.reply.Reply.{Reply}
+use Rattle.dualoc_cli.specs.declared.reply.Reply.TheVariants.{NoCommand, Failed, Refused}
+use Rattle.dualoc_cli.specs.declared.reply.Port.TheVariants as port
+use Rattle.dualoc_cli.specs.declared.reply.Refusal.TheVariants.{LongInstance, Faulty}
+use Rattle.dualoc_cli.specs.declared.halt.Halt.{Halt}
+use Rattle.dualoc_cli.specs.Command.{Command, OnFile, OnTrial, Job, Session, command_of}
+use Rattle.dualoc_cli.specs.Reply.{status_of}
+use Rattle.dualoc_cli.specs.Run.{Run, run_of, HasTask}
+use Rattle.dualoc_cli.specs.Session.{stop_of}
+use Rattle.dualoc_cli.specs.Due.{IsCause, IsRefusalStatus, KeepsFiles}
+use Rattle.dualoc_cli.specs.Step.{InRuns, Spans, InSpans, ComesTo, RunsOut, ComesToHalt, KeepsAll}
+use Rattle.dualoc_cli.specs.Talk.{IsEnded, IsHalted}
+use Rattle.dualoc_cli.proofs.Causes.{covers_rest, fails_in, too_long, file_fault, task_of}
+use Rattle.dualoc_cli.proofs.Parts.{IsOnce, once_comes, once_runs_out, once_keeps, unread_comes, unread_runs_out, unread_keeps, none_keeps, trial_keeps, session_comes, session_halts, session_keeps}
+
+module _ (job : Job) (I : Instance) (old new : Ports) where
+  abbrev Asks : Run → Type 0
+  Asks r = HasTask r job I
+
+  module _ (once : IsOnce job) (same_input : new.input ≡ old.input) (same_output : new.output ≡ old.output) where
+    pub once_replied : (reply : Reply) → InRuns Asks old.shelf new.shelf (λ r. IsCause r reply) → (IsRefusalStatus (status_of reply) → new.shelf.files ≡ old.shelf.files) → InSpans Asks old new (λ r. ComesTo r new.output reply)
+    once_replied reply cause same = λ r task part. once_comes r old new part job I once task same_input same_output reply (cause r task part.shelf) same
+
+    pub once_halted : InSpans Asks old new (λ r. RunsOut r new.output)
+    once_halted = λ r task part. once_runs_out r old new part job I once task same_input same_output
+
+    pub once_kept : InRuns Asks old.shelf new.shelf (λ r. KeepsFiles r job) → InSpans Asks old new KeepsAll
+    once_kept keeps = λ r task part. once_keeps r old new part job I once task same_input same_output (keeps r task part.shelf)
+
+  module _ (is : job ≡ Session) where
+    asked_session : (r : Run) → Asks r → HasTask r Session I
+    asked_session r task = subst (λ j. HasTask r j I) is task
+
+    pub session_replied : (result : Result Reply Halt) → IfOk result (IsEnded session_limits I old new) → IfOk result (λ reply. InSpans Asks old new (λ r. ComesTo r new.output reply))
+    session_replied (Ok reply) ended = λ r task part. session_comes r old new part I (asked_session r task) reply ended
+    session_replied (Err h) ended = tt
+
+    pub session_halted : (result : Result Reply Halt) → IfErr result (IsHalted session_limits I old new) → IfErr result (λ h. InSpans Asks old new (λ r. ComesToHalt r new.output h))
+    session_halted (Ok reply) halted = tt
+    session_halted (Err h) halted = λ r task part. session_halts r old new part I (asked_session r task) h halted
+
+    pub session_kept : (result : Result Reply Halt) → IfOk result (IsEnded session_limits I old new) → IfErr result (IsHalted session_limits I old new) → InSpans Asks old new KeepsAll
+    session_kept result ended halted = λ r task part. session_keeps r old new part I (asked_session r task) result ended halted
+
+-- what a part of a run spans behind a first piece of it that changes no file
+pub spans_rest : (r : Run) (old mid new : Ports) → Spans r old new → mid.shelf.files ≡ old.shelf.files → NeverFalls old.shelf.reads mid.shelf.reads → NeverFalls old.shelf.writes mid.shelf.writes
+    → mid.input ≡ old.input → mid.output ≡ old.output → Spans r mid new
+spans_rest r old mid new part same reads writes same_input same_output =
+    record {
+      shelf = covers_rest r old.shelf mid.shelf new.shelf part.shelf same reads writes;
+      input = same_input ∙ part.input;
+      input_left = part.input_left;
+      output = same_output ∙ part.output;
+    }
+
+-- the part of a run that ends with this printed behind it
+pub whole_part : (words : List (List ℕ)) (old new : Ports) (output : SinkState) → Spans (run_of words old (ports_of new.shelf new.input output)) old new
+whole_part words old new output =
+    record {
+      shelf = record { files = refl; left = refl; since = λ name. omega arith; until = λ name. omega arith; writes_since = λ name. omega arith; writes_until = λ name. omega arith };
+      input = refl;
+      input_left = refl;
+      output = refl;
+    }
+
+-- An instance's file that was to be read, for a job on it.
+module _ (file : InstanceFile) (job : Job) (old new : Ports) where
+  abbrev Words : Run → Type 0
+  Words r = command_of r.words ≡ Some (OnFile file job)
+
+  module _ (same_files : new.shelf.files ≡ old.shelf.files) (same_input : new.input ≡ old.input) (same_output : new.output ≡ old.output) where
+    pub failed_replied : Rose (old.shelf.reads file.name) (new.shelf.reads file.name) → InSpans Words old new (λ r. ComesTo r new.output (Failed port.Instance))
+    failed_replied rose =
+        λ r words_are part.
+        unread_comes r old new part same_files same_input same_output (Failed port.Instance) (record { file = file; job = job; words_are = words_are; fails = fails_in r old.shelf new.shelf file.name part.shelf rose }) refl
+
+    pub long_replied : IsLong old.shelf.files file.name → InSpans Words old new (λ r. ComesTo r new.output (Refused LongInstance))
+    long_replied long =
+        λ r words_are part. unread_comes r old new part same_files same_input same_output (Refused LongInstance) (too_long r file job old.shelf.files words_are part.shelf.files long) refl
+
+    pub faulty_replied : (fault : FileFault) → HasMeaning old.shelf.files file (Err fault) → InSpans Words old new (λ r. ComesTo r new.output (Refused (Faulty fault)))
+    faulty_replied fault means =
+        λ r words_are part. unread_comes r old new part same_files same_input same_output (Refused (Faulty fault)) (file_fault r file job old.shelf.files fault words_are part.shelf.files means) refl
+
+    pub unopened_halted : InSpans Words old new (λ r. RunsOut r new.output)
+    unopened_halted = λ r words_are part. unread_runs_out r old new part same_files same_input same_output
+
+    pub unopened_kept : InSpans Words old new KeepsAll
+    unopened_kept = λ r words_are part. unread_keeps r old new part same_files same_input same_output file job words_are
+
+  -- it was read, and what is behind that was done
+  module _ (mid : Ports) (I : Instance) (means : HasMeaning old.shelf.files file (Ok I)) (same_files : mid.shelf.files ≡ old.shelf.files) (reads : NeverFalls old.shelf.reads mid.shelf.reads)
+      (writes : NeverFalls old.shelf.writes mid.shelf.writes) (same_input : mid.input ≡ old.input) (same_output : mid.output ≡ old.output) where
+    behind : (holds : Run → Type 0) → InSpans (λ r. HasTask r job I) mid new holds → InSpans Words old new holds
+    behind holds done =
+        λ r words_are part.
+        done r (task_of r file job old.shelf.files I words_are part.shelf.files means) (spans_rest r old mid new part same_files reads writes same_input same_output)
+
+    pub opened_replied : (result : Result Reply Halt) → IfOk result (λ reply. InSpans (λ r. HasTask r job I) mid new (λ r. ComesTo r new.output reply)) → IfOk result (λ reply. InSpans Words old new (λ r. ComesTo r new.output reply))
+    opened_replied (Ok reply) done = behind (λ r. ComesTo r new.output reply) done
+    opened_replied (Err h) done = tt
+
+    pub opened_halted : (result : Result Reply Halt) → IfErr result (λ h. InSpans (λ r. HasTask r job I) mid new (λ r. ComesToHalt r new.output h)) → IfErr result (λ h. InSpans Words old new (λ r. ComesToHalt r new.output h))
+    opened_halted (Ok reply) done = tt
+    opened_halted (Err h) done = behind (λ r. ComesToHalt r new.output h) done
+
+    pub opened_kept : InSpans (λ r. HasTask r job I) mid new KeepsAll → InSpans Words old new KeepsAll
+    opened_kept done = behind KeepsAll done
+
+-- words that are no command
+pub none_replied : (words : List (List ℕ)) (at : Ports) → None ≡ command_of words → InSpans (λ r. r.words ≡ words) at at (λ r. ComesTo r at.output NoCommand)
+none_replied words at none =
+    λ r is part. unread_comes r at at part refl refl refl NoCommand (ap command_of is ∙ sym none) refl
+
+pub none_kept : (words : List (List ℕ)) (at : Ports) → None ≡ command_of words → InSpans (λ r. r.words ≡ words) at at KeepsAll
+none_kept words at none = λ r is part. none_keeps r at at part refl refl refl (ap command_of is ∙ sym none)
+
+-- words that ask for a trial, which reads and changes nothing
+module _ (seed m n : ℕ) (at : Ports) where
+  abbrev AsksTrial : Run → Type 0
+  AsksTrial r = command_of r.words ≡ Some (OnTrial seed m n)
+
+  pub trial_replied : (reply : Reply) → stop_of reply ≡ None → ((r : Run) → AsksTrial r → IsCause r reply) → InSpans AsksTrial at at (λ r. ComesTo r at.output reply)
+  trial_replied reply none cause = λ r words_are part. unread_comes r at at part refl refl refl reply (cause r words_are) none
+
+  pub trial_halted : InSpans AsksTrial at at (λ r. RunsOut r at.output)
+  trial_halted = λ r words_are part. unread_runs_out r at at part refl refl refl
+
+  pub trial_kept : InSpans AsksTrial at at KeepsAll
+  trial_kept = λ r words_are part. trial_keeps r at at part refl refl refl seed m n words_are
+
+-- words that are one
+module _ (words : List (List ℕ)) (command : Command) (old new : Ports) (some : Some command ≡ command_of words) where
+  asked_so : (holds : Run → Type 0) → InSpans (λ r. command_of r.words ≡ Some command) old new holds → InSpans (λ r. r.words ≡ words) old new holds
+  asked_so holds done = λ r is part. done r (ap command_of is ∙ sym some) part
+
+  pub some_replied : (result : Result Reply Halt) → IfOk result (λ reply. InSpans (λ r. command_of r.words ≡ Some command) old new (λ r. ComesTo r new.output reply)) → IfOk result (λ reply. InSpans (λ r. r.words ≡ words) old new (λ r. ComesTo r new.output reply))
+  some_replied (Ok reply) done = asked_so (λ r. ComesTo r new.output reply) done
+  some_replied (Err h) done = tt
+
+  pub some_halted : (result : Result Reply Halt) → IfErr result (λ h. InSpans (λ r. command_of r.words ≡ Some command) old new (λ r. ComesToHalt r new.output h)) → IfErr result (λ h. InSpans (λ r. r.words ≡ words) old new (λ r. ComesToHalt r new.output h))
+  some_halted (Ok reply) done = tt
+  some_halted (Err h) done = asked_so (λ r. ComesToHalt r new.output h) done
+
+  pub some_kept : InSpans (λ r. command_of r.words ≡ Some command) old new KeepsAll → InSpans (λ r. r.words ≡ words) old new KeepsAll
+  some_kept done = asked_so KeepsAll done
