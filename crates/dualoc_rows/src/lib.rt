@@ -1,15 +1,11 @@
-//! Runs of the whole program over files, an input and an output in memory. There is nothing here but
-//! tests.
+//! Runs of the program that solve, over files, an input and an output in memory, and words that are no command.
+//! There is nothing here but tests.
 #![tactic(auto)]
 
 #[cfg(test)]
-mod again;
+mod claims;
 #[cfg(test)]
-mod checks;
-#[cfg(test)]
-mod converts;
-#[cfg(test)]
-mod forms;
+mod cuts;
 #[cfg(test)]
 mod rows;
 #[cfg(test)]

@@ -1,7 +1,6 @@
-use crate::forms::{NETWORK, WAREHOUSES, WORDED};
-use crate::solves::{Outcome, ran};
-use dualoc_cli::Status;
-use std::alloc::Global;
+//! Searches of every form, and checks of the certificates that they leave.
+use memory_runs::{Calls, NETWORK, Outcome, Row, Status, WAREHOUSES, WORDED, ran};
+use std::alloc::{AllocError, Global};
 use std::test::Fail;
 
 // Each warehouse holds one of the two customers.
@@ -20,111 +19,155 @@ const MEDIAN: &str =
 
 const NO_PLAN: &str = "dualoc-plan 1\ninfeasible\nend\n";
 
-// A form, a file, how a search of it ends, what its line begins with, the claim that its certificate shows, and
-// the plan's file.
-const SEARCHES: [(&str, &str, Status, &str, &str, &str); 7] = [
-    (
-        "cap",
-        WAREHOUSES,
-        Status::Done,
-        "optimal 7504.750000 nodes ",
-        "yes optimal 7504.750000\n",
-        BOTH,
-    ),
-    (
-        "cap",
-        LIBRARY,
-        Status::Done,
-        "optimal 22358.587500 nodes ",
-        "yes optimal 22358.587500\n",
-        LIBRARY_PLAN,
-    ),
-    // A customer that fits nowhere, though both capacities together suffice.
-    (
-        "cap",
-        "2 2\n10 7500\n10 .5\n6 6739.725 1.25\n11 3 4\n",
-        Status::Infeasible,
-        "infeasible nodes 1\n",
-        "yes infeasible\n",
-        NO_PLAN,
-    ),
-    // One warehouse that holds either customer and not both.
-    (
-        "cap",
-        "1 2\n10 3\n6 1\n6 1\n",
-        Status::Infeasible,
-        "infeasible nodes 3\n",
-        "yes infeasible\n",
-        NO_PLAN,
-    ),
-    (
-        "pmed",
-        NETWORK,
-        Status::Done,
-        "optimal 11.000000 nodes ",
-        "yes optimal 11.000000\n",
-        MEDIAN,
-    ),
-    // No walk leads from one median to every vertex.
-    (
-        "pmed",
-        "3 1 1\n1 2 5\n",
-        Status::Infeasible,
-        "infeasible nodes ",
-        "yes infeasible\n",
-        NO_PLAN,
-    ),
-    // More medians than vertices.
-    (
-        "pmed",
-        "2 1 3\n1 2 3\n",
-        Status::Infeasible,
-        "infeasible nodes 1\n",
-        "yes infeasible\n",
-        NO_PLAN,
-    ),
-];
-
-fn searched(alloc: Global, words: &[&str], file: &str) -> Result<Outcome, Fail> {
-    ran(alloc, words, [file.as_bytes(), b"", b""], 64, 0, 0)
+// How a search of a file ends, what its line begins with, and the claim and the plan that it leaves.
+struct Search {
+    solve: &'static str,
+    check: &'static str,
+    file: &'static str,
+    status: Status,
+    front: &'static str,
+    claim: &'static str,
+    plan: &'static str,
 }
 
+const SEARCHES: [Search; 7] = [
+    Search {
+        solve: "solve cap a p c",
+        check: "check cap a c",
+        file: WAREHOUSES,
+        status: Status::Done,
+        front: "optimal 7504.750000 nodes ",
+        claim: "yes optimal 7504.750000\n",
+        plan: BOTH,
+    },
+    Search {
+        solve: "solve cap a p c",
+        check: "check cap a c",
+        file: LIBRARY,
+        status: Status::Done,
+        front: "optimal 22358.587500 nodes ",
+        claim: "yes optimal 22358.587500\n",
+        plan: LIBRARY_PLAN,
+    },
+    // A customer that fits nowhere, though both capacities together suffice.
+    Search {
+        solve: "solve cap a p c",
+        check: "check cap a c",
+        file: "2 2\n10 7500\n10 .5\n6 6739.725 1.25\n11 3 4\n",
+        status: Status::Infeasible,
+        front: "infeasible nodes 1\n",
+        claim: "yes infeasible\n",
+        plan: NO_PLAN,
+    },
+    // One warehouse that holds either customer and not both.
+    Search {
+        solve: "solve cap a p c",
+        check: "check cap a c",
+        file: "1 2\n10 3\n6 1\n6 1\n",
+        status: Status::Infeasible,
+        front: "infeasible nodes 3\n",
+        claim: "yes infeasible\n",
+        plan: NO_PLAN,
+    },
+    Search {
+        solve: "solve pmed a p c",
+        check: "check pmed a c",
+        file: NETWORK,
+        status: Status::Done,
+        front: "optimal 11.000000 nodes ",
+        claim: "yes optimal 11.000000\n",
+        plan: MEDIAN,
+    },
+    // No walk leads from one median to every vertex.
+    Search {
+        solve: "solve pmed a p c",
+        check: "check pmed a c",
+        file: "3 1 1\n1 2 5\n",
+        status: Status::Infeasible,
+        front: "infeasible nodes ",
+        claim: "yes infeasible\n",
+        plan: NO_PLAN,
+    },
+    // More medians than vertices.
+    Search {
+        solve: "solve pmed a p c",
+        check: "check pmed a c",
+        file: "2 1 3\n1 2 3\n",
+        status: Status::Infeasible,
+        front: "infeasible nodes 1\n",
+        claim: "yes infeasible\n",
+        plan: NO_PLAN,
+    },
+];
+
 // Whether a check of the certificate prints this line.
-fn shows(alloc: Global, form: &str, file: &str, found: &Outcome, line: &str) -> Result<bool, Fail> {
-    let words = ["check", form, "a", "c"];
-    let texts = [file.as_bytes(), b"", found.certificate.as_slice()];
-    Ok(ran(alloc, &words, texts, 64, 0, 0)?.is(Status::Done, line))
+fn shows<'x>(
+    alloc: Global,
+    words: &'x str,
+    file: &'x str,
+    certificate: &'x str,
+    line: &'x str,
+) -> Result<bool, Fail> {
+    let (files, texts) = ([("a", file), ("c", certificate)], [line]);
+    let row = Row::keeping(words, &files, Status::Done, &texts);
+    Ok(row.is_met(alloc, Calls::sound(64))?)
+}
+
+fn searched(alloc: Global, words: &str, file: &str) -> Result<Outcome, AllocError> {
+    ran(alloc, words, &[("a", file)], b"", Calls::sound(64))
+}
+
+fn is_as_said(alloc: Global, search: &Search) -> Result<bool, Fail> {
+    let found = searched(alloc, search.solve, search.file)?;
+    Ok(
+        found.begins(search.status, search.front)
+            && found.holds("p", search.plan)
+            && shows(
+                alloc,
+                search.check,
+                search.file,
+                found.file("c"),
+                search.claim,
+            )?,
+    )
 }
 
 #[test]
 fn searches_every_form(rt: HostRuntime) -> Result<(), Fail> {
-    for (form, file, status, front, claim, plan) in SEARCHES {
-        let words = ["solve", form, "a", "p", "c"];
-        let found = searched(rt.alloc(), &words, file)?;
-        assert!(rt; found.begins(status, front), "{file}");
-        assert!(rt; found.leaves(plan, found.certificate.as_slice()), "{file}");
-        assert!(rt; shows(rt.alloc(), form, file, &found, claim)?, "{file}");
+    for search in &SEARCHES {
+        assert!(rt; is_as_said(rt.alloc(), search)?, "{}", search.file);
     }
     Ok(())
 }
 
+fn holds_both(alloc: Global, words: &str) -> Result<bool, Fail> {
+    let found = searched(alloc, words, WORDED)?;
+    Ok(
+        found.begins(Status::Done, "optimal 7504.750000 nodes ")
+            && found.holds("p", BOTH)
+            && !found.file("c").is_empty(),
+    )
+}
+
 #[test]
 fn takes_options_in_either_order(rt: HostRuntime) -> Result<(), Fail> {
-    for options in [["capacity=10", "budget=9"], ["budget=9", "capacity=10"]] {
-        let words = ["solve", "cap", "a", "p", "c", options[0], options[1]];
-        let found = searched(rt.alloc(), &words, WORDED)?;
-        assert!(rt; found.begins(Status::Done, "optimal 7504.750000 nodes "));
-        assert!(rt; found.leaves(BOTH, found.certificate.as_slice()));
-    }
+    assert!(rt; holds_both(rt.alloc(), "solve cap a p c capacity=10 budget=9")?);
+    assert!(rt; holds_both(rt.alloc(), "solve cap a p c budget=9 capacity=10")?);
     Ok(())
+}
+
+fn ends_within_one_node(alloc: Global) -> Result<bool, Fail> {
+    let words = "solve pmed a p c budget=1";
+    let found = searched(alloc, words, NETWORK)?;
+    Ok(
+        found.is(Status::Done, "optimal 11.000000 nodes 1\n")
+            || found.ends(Status::Bracket, ".000000 nodes 1 budget 1\n"),
+    )
 }
 
 // A connected network has a plan, however small the budget is.
 #[test]
 fn finds_a_median_within_one_node(rt: HostRuntime) -> Result<(), Fail> {
-    let words = ["solve", "pmed", "a", "p", "c", "budget=1"];
-    let found = searched(rt.alloc(), &words, NETWORK)?;
-    let is_done = found.is(Status::Done, "optimal 11.000000 nodes 1\n");
-    assert!(rt; is_done || found.ends(Status::Bracket, ".000000 nodes 1 budget 1\n"));
+    assert!(rt; ends_within_one_node(rt.alloc())?);
     Ok(())
 }

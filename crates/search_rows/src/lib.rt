@@ -15,6 +15,8 @@ mod plans;
 #[cfg(test)]
 mod prices;
 #[cfg(test)]
+mod reports;
+#[cfg(test)]
 mod sets;
 #[cfg(test)]
 mod steps;

@@ -1,0 +1,59 @@
+//! One run.
+ghost use Rattle.std.specs.Prelude.{◌<◌};
+
+use crate::calls::Calls;
+use crate::outcome::Outcome;
+use dualoc_cli::run;
+use shelf_port::{MemShelf, MemSink, MemSource};
+use std::alloc::{AllocError, Global};
+
+/// What words, with one space between two, come to over these files, by name and text, and over this input. It
+/// fails where memory runs out before the run begins.
+pub fn ran(
+    alloc: Global,
+    words: &str,
+    files: &[(&str, &str)],
+    input: &[u8],
+    calls: Calls,
+) -> Result<Outcome, AllocError>
+    requires { 0 < calls.width }
+{
+    let names = owned(alloc, words)?;
+    let mut shelf = shelf_of(alloc, files, calls)?;
+    let mut source = source_of(alloc, input, calls)?;
+    let mut out = MemSink::new(alloc, vec![in alloc; calls.out_fails]?).in_pieces(calls.width);
+    let status = run(alloc, &names, &mut shelf, &mut source, &mut out);
+    Ok(Outcome { status, shelf, out })
+}
+
+// The words of a text: none where it is empty, else those that its spaces part.
+fn owned(alloc: Global, words: &str) -> Result<Vec<String>, AllocError> {
+    let mut names = Vec::new(alloc);
+    if !words.is_empty() {
+        for word in words.split(' ') {
+            names.push(String::from_str(alloc, word)?)?;
+        }
+    }
+    Ok(names)
+}
+
+fn shelf_of(alloc: Global, files: &[(&str, &str)], calls: Calls) -> Result<MemShelf, AllocError>
+    requires { 0 < calls.width }
+{
+    let mut held = Vec::new(alloc);
+    for (name, text) in files {
+        held.push((
+            String::from_str(alloc, name)?,
+            text.as_bytes().to_vec(alloc)?,
+        ))?;
+    }
+    let fails = vec![in alloc; calls.shelf_fails]?;
+    Ok(MemShelf::new(alloc, held, fails).in_pieces(calls.width))
+}
+
+fn source_of(alloc: Global, input: &[u8], calls: Calls) -> Result<MemSource, AllocError>
+    requires { 0 < calls.width }
+{
+    let fails = vec![in alloc; calls.input_fails]?;
+    Ok(MemSource::new(input.to_vec(alloc)?, fails).in_pieces(calls.width))
+}
