@@ -1,0 +1,12 @@
+pub mod Bent
+pub mod Alike
+pub mod WholeLanes
+pub mod LanePrices
+pub mod FixedPrices
+pub mod Kept
+pub mod PlanCosts
+pub mod Targets
+pub mod Ranges
+pub mod Families
+pub mod Lacks
+pub mod Scans
