@@ -1,0 +1,64 @@
+-- From what is known between two probes to the answer, and from what an answer shows to what it means.
+use Rattle.std.proofs.Common.{◌≡◌, ℕ, ◌<◌, ◌≤◌, None, Some, sym, subst, arith}
+use Rattle.location_terms.specs.declared.claim.Claim.TheVariants.{Infeasible as NoPlan}
+use Rattle.location_terms.specs.Instance.{Instance, IsValid}
+use Rattle.location_terms.specs.Optimal.{IsImpossible}
+use Rattle.location_terms.specs.Tree.{Tree}
+use Rattle.location_terms.proofs.Claims.{claim_holds}
+use Rattle.plan_radius.specs.Radius.{radius_of, IsLeastRadius, IsAboveLanes}
+use Rattle.plan_radius.specs.Cheaper.{below_cost}
+use Rattle.plan_radius.proofs.Thresholds.{least_from_impossible, valid_below, below_all}
+use Rattle.center_solve.specs.declared.answer.CenterAnswer.{CenterAnswer}
+use Rattle.center_solve.specs.declared.answer.CenterAnswer.TheVariants.{Best, Infeasible, Open}
+use Rattle.center_solve.specs.declared.known.Known.{Known}
+use Rattle.center_solve.specs.declared.probe.Finding.TheVariants as probes
+use Rattle.center_solve.specs.Center.{ShowsNoPlan, IsCenterAnswer, CenterHolds}
+use Rattle.center_solve.specs.Probing.{IsProbeOf, IsKnownSoFar}
+
+module _ (I : Instance) (valid : IsValid I) where
+  impossible : (J : Instance) (t : Tree) → IsValid J → ShowsNoPlan J t → IsImpossible J
+  impossible J t of_J shown = claim_holds J of_J NoPlan None t shown.shows
+
+  least : (r : ℕ) (t : Tree) → ShowsNoPlan (below_cost I r) t → IsLeastRadius I r
+  least r t shown = least_from_impossible I r (impossible (below_cost I r) t (valid_below I r valid) shown)
+
+  -- what an answer means
+  pub answer_holds : (budget : ℕ) (a : CenterAnswer) → IsCenterAnswer I budget a → CenterHolds I a
+  answer_holds budget (Best radius plan tree) answer = (record { feasible = answer.0; least = subst (IsLeastRadius I) answer.1 (least radius tree answer.2) }, answer.1)
+  answer_holds budget (Infeasible tree) answer = impossible I tree valid answer
+  answer_holds budget (Open low plan tree at probe) answer = (least low tree answer.shown, answer.feasible)
+
+  module _ (budget : ℕ) (k : Known) (known : IsKnownSoFar I k) where
+    -- the two ends have met
+    pub best_answer : k.radius ≤ k.low → (a : CenterAnswer) → a ≡ Best k.radius k.plan k.tree → IsCenterAnswer I budget a
+    best_answer met a is =
+        let low : k.low ≤ radius_of I k.plan = least k.low k.tree known.shown k.plan known.feasible in
+        let same : k.low ≡ k.radius = omega (arith, low, met, known.exact) in
+        subst (IsCenterAnswer I budget) (sym is) (known.feasible, known.exact, subst (λ r. ShowsNoPlan (below_cost I r) k.tree) same known.shown)
+
+    module _ (at : ℕ) (above : k.low < at) (within : at ≤ k.radius) where
+      -- the probe stayed open
+      pub stopped_answer : (tree : Tree) → IsProbeOf I at budget (probes.Open tree) → (a : CenterAnswer) → a ≡ Open k.low (Some k.plan) k.tree at tree → IsCenterAnswer I budget a
+      stopped_answer tree probe a is = subst (IsCenterAnswer I budget) (sym is) (record {
+        shown = known.shown;
+        feasible = known.feasible;
+        ended = probe.0;
+        hard = probe.1;
+        narrowed = above;
+        reach = omega (arith, within, known.exact);
+      })
+
+  -- the first probe
+  module _ (at : ℕ) (above : IsAboveLanes I at) where
+    pub none_answer : (budget : ℕ) (tree : Tree) → IsProbeOf I at budget (probes.Empty tree) → IsCenterAnswer I budget (Infeasible tree)
+    none_answer budget tree probe = subst (λ J. ShowsNoPlan J tree) (below_all I at above) probe
+
+    pub first_open : (budget low : ℕ) (tree probe : Tree) → low ≡ 0 → 0 < at → ShowsNoPlan (below_cost I low) tree → IsProbeOf I at budget (probes.Open probe) → IsCenterAnswer I budget (Open low None tree at probe)
+    first_open budget low tree probe least positive shown open_probe = record {
+      shown = shown;
+      feasible = tt;
+      ended = open_probe.0;
+      hard = open_probe.1;
+      narrowed = omega (arith, least, positive);
+      reach = above;
+    }

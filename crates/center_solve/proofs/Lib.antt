@@ -1,0 +1,4 @@
+mod Probes
+mod Rays
+mod Answered
+mod Limits

@@ -1,0 +1,71 @@
+-- What a search for a center answers: by a tree that shows that no plan has a smaller radius, or by the probe that spent its budget.
+use Rattle.std.specs.Prelude.{◌≡◌, ℕ, ◌+◌, ◌<◌, ◌≤◌, Option, None, IfSome, MatchOption}
+use Rattle.location_terms.specs.declared.claim.Claim.TheVariants.{Infeasible as NoPlan}
+use Rattle.location_terms.specs.Instance.{Instance}
+use Rattle.location_terms.specs.Plan.{Plan, IsFeasible}
+use Rattle.location_terms.specs.Optimal.{IsImpossible}
+use Rattle.location_terms.specs.Tree.{Tree, nodes_of}
+use Rattle.location_terms.specs.Certificate.{IsAccepted}
+use Rattle.instance_store.specs.Changes.{with_count as with_counts}
+use Rattle.dual_value.specs.Zeros.{zeros}
+use Rattle.branch_tree.specs.Made.{leaf_of}
+use Rattle.plan_search.specs.InBox.{HasNoCaps}
+use Rattle.tree_search.specs.Grown.{IsGrownFrom, PlansWereSought}
+use Rattle.tree_search.specs.Answer.{HasFreeCount, HasOpenLeaf}
+use Rattle.plan_radius.specs.Radius.{radius_of, IsLeastRadius, IsCenter, IsAboveLanes}
+use Rattle.plan_radius.specs.Cheaper.{below_cost, without_costs}
+use Rattle.center_solve.specs.declared.answer.CenterAnswer.{CenterAnswer}
+use Rattle.center_solve.specs.declared.answer.CenterAnswer.TheVariants.{Best, Infeasible, Open}
+
+-- the instance whose plans open just so many sites
+abbrev pub with_exact_count : Instance → ℕ → Instance
+with_exact_count I count = with_counts I count count
+
+-- the tree alone is an accepted certificate that no plan is feasible
+abbrev pub ShowsNoPlan : Instance → Tree → Type 0
+ShowsNoPlan I t = IsAccepted I (record { claim = NoPlan; plan = None; tree = t })
+
+-- the root leaf of zeros, from which each probe starts
+abbrev pub root_of : Instance → Tree
+root_of I = leaf_of I (zeros I 1)
+
+-- the instance that a probe searches: its feasible plans are those of a radius below this
+abbrev pub probed : Instance → ℕ → Instance
+probed I at = without_costs (below_cost I at)
+
+-- A search of a probe's instance that found no plan and didn't show that there is none: its tree grew from the root leaf, at no leaf did packing give a
+-- plan, a leaf is open, and one more split would make more nodes than the budget allows.
+pub record IsOpenProbe (Z : Instance) (budget : ℕ) (probe : Tree) : Type 0 where
+  pub grown : IsGrownFrom Z None None (root_of Z) probe
+  pub sought : PlansWereSought Z probe None
+  pub unfinished : HasOpenLeaf Z probe None
+  pub spent : budget < nodes_of probe + 1
+
+-- The search ended with an open probe at a cost: no plan's radius is below the low end, and the best plan that is known, if one is, has a radius of
+-- at least the probe's cost. Without a plan the first probe ended it, whose cost is above that of every lane.
+pub record IsOpenCenter (I : Instance) (budget low : ℕ) (plan : Option Plan) (tree : Tree) (at : ℕ) (probe : Tree) : Type 0 where
+  pub shown : ShowsNoPlan (below_cost I low) tree
+  pub feasible : IfSome plan (IsFeasible I)
+  pub ended : IsOpenProbe (probed I at) budget probe
+  -- only capacities or the number of open sites make a probe hard
+  pub hard : HasNoCaps I → HasFreeCount I → ⊥
+  pub narrowed : low < at
+  pub reach : MatchOption plan (IsAboveLanes I at) (λ P. at ≤ radius_of I P)
+
+-- what each answer shows
+abbrev pub IsCenterAnswer : Instance → ℕ → CenterAnswer → Type 0
+IsCenterAnswer I budget (Best radius plan tree) = IsFeasible I plan × (radius ≡ radius_of I plan) × ShowsNoPlan (below_cost I radius) tree
+IsCenterAnswer I budget (Infeasible tree) = ShowsNoPlan I tree
+IsCenterAnswer I budget (Open low plan tree at probe) = IsOpenCenter I budget low plan tree at probe
+
+-- what each answer means for the plans of the instance, whatever shows it
+abbrev pub CenterHolds : Instance → CenterAnswer → Type 0
+CenterHolds I (Best radius plan tree) = IsCenter I plan × (radius ≡ radius_of I plan)
+CenterHolds I (Infeasible tree) = IsImpossible I
+CenterHolds I (Open low plan tree at probe) = IsLeastRadius I low × IfSome plan (IsFeasible I)
+
+-- the search came to an end
+abbrev pub HasEndedSearch : CenterAnswer → Type 0
+HasEndedSearch (Best radius plan tree) = Unit {0}
+HasEndedSearch (Infeasible tree) = Unit {0}
+HasEndedSearch (Open low plan tree at probe) = ⊥

@@ -1,0 +1,3 @@
+pub mod Center
+pub mod Probing
+pub mod Reach

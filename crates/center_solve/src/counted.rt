@@ -1,0 +1,37 @@
+//! Plans that open a given number of sites, and what each number costs.
+ghost use Rattle.std.specs.Prelude.{◌≡◌, ◌+◌, ◌^◌, ◌≤◌, None, IfOk};
+ghost use Rattle.location_terms.specs.Optimal.{ClaimHolds};
+ghost use Rattle.location_terms.specs.declared.limits.TheConstants.{MAX_SITES};
+ghost use Rattle.tree_search.specs.Answer.{IsWithin, IsAnswerTo, IsDecided, claim_in, plan_in, most_decisions};
+ghost use Rattle.center_solve.specs.Center.{with_exact_count, root_of};
+
+use crate::searched::searched;
+use instance_store::{Instance, NoMemory};
+use std::alloc::Global;
+use tree_search::Answer;
+
+/// The instance whose plans open just so many sites. It fails only where memory runs out.
+pub fn with_exact_count(alloc: Global, inst: &Instance, count: u32) -> Result<Instance, NoMemory>
+    requires { count ≤ MAX_SITES }
+    ensures { IfOk result (λ I. I ≡ with_exact_count inst.now count) }
+{
+    let mut counted = inst.copied(alloc)?;
+    counted.set_count(count, count);
+    Ok(counted)
+}
+
+/// One entry of the cost curve: what a search with this budget of nodes comes to where a plan opens just so
+/// many sites. It fails only where memory runs out.
+pub fn curve(alloc: Global, inst: &Instance, count: u32, budget: u32) -> Result<Answer, NoMemory>
+    requires count { count ≤ MAX_SITES }
+    requires within { IsWithin inst.now budget }
+    ensures answer { IfOk result (IsAnswerTo (with_exact_count inst.now count) (root_of (with_exact_count inst.now count)) None budget) }
+    ensures holds { IfOk result (λ a. ClaimHolds (with_exact_count inst.now count) (claim_in (with_exact_count inst.now count) a) (plan_in a)) }
+    ensures decided { 2 ^ (most_decisions inst.now + 1) ≤ budget → IfOk result IsDecided }
+{
+    let counted = with_exact_count(alloc, inst, count)?;
+    // An instance is valid.
+    let _sites = counted.sites();
+    let answer = searched(alloc, &counted, budget)?;
+    Ok(answer)
+}

@@ -1,0 +1,70 @@
+//! One question of the search for a center: does some feasible plan have a radius below a cost?
+ghost use Rattle.std.specs.Prelude.{◌≡◌, ◌+◌, ◌^◌, ◌≤◌, IfOk};
+ghost use Rattle.location_terms.specs.Instance.{IsValid};
+ghost use Rattle.tree_search.specs.Answer.{IsWithin, most_decisions};
+ghost use Rattle.center_solve.specs.Center.{probed};
+ghost use Rattle.center_solve.specs.Probing.{found_or_open, probe_in, IsProbeOf, IsClear};
+
+use crate::searched::searched;
+use instance_store::{Instance, NoMemory};
+use plan_meaning::Plan;
+use plan_radius::{below_cost, clear_costs};
+use std::alloc::Global;
+use tree_search::{Answer, Tree};
+
+/// What a probe found.
+#[derive(Drop)]
+pub(crate) enum Finding {
+    /// A feasible plan of a smaller radius.
+    Found(Plan),
+    /// That there is none, as the tree shows.
+    Empty(Tree),
+    /// Neither, within the budget.
+    Open(Tree),
+}
+
+/// Searches for a feasible plan with a radius below `at`, in millionths. It fails only where memory runs out.
+pub(crate) fn probe(
+    alloc: Global,
+    inst: &Instance,
+    at: u64,
+    budget: u32,
+) -> Result<Finding, NoMemory>
+    requires within { IsWithin inst.now budget }
+    requires valid { IsValid inst.now }
+    ensures found { IfOk result (IsProbeOf inst.now at budget) }
+    ensures clear { 2 ^ (most_decisions inst.now + 1) ≤ budget → IfOk result IsClear }
+{
+    let free = probe_instance(alloc, inst, at)?;
+    let answer = searched(alloc, &free, budget)?;
+    Ok(probe_of(answer))
+}
+
+// The instance that a probe searches.
+fn probe_instance(alloc: Global, inst: &Instance, at: u64) -> Result<Instance, NoMemory>
+    ensures { IfOk result (λ I. I ≡ probed inst.now at) }
+{
+    let mut free = below_cost(alloc, inst, at)?;
+    clear_costs(&mut free);
+    Ok(free)
+}
+
+// What the search found. A plan is as good where the search of it was cut off, since nothing costs anything.
+fn probe_of(answer: Answer) -> Finding
+    ensures { result ≡ probe_in answer }
+{
+    match answer {
+        Answer::Optimal { plan, .. } => Finding::Found(plan),
+        Answer::Infeasible { tree, .. } => Finding::Empty(tree),
+        Answer::Bracket { plan, tree, .. } => found_or_open(plan, tree),
+    }
+}
+
+fn found_or_open(plan: Option<Plan>, tree: Tree) -> Finding
+    ensures { result ≡ found_or_open plan tree }
+{
+    match plan {
+        Some(plan) => Finding::Found(plan),
+        None => Finding::Open(tree),
+    }
+}

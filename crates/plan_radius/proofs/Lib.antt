@@ -1,0 +1,5 @@
+pub mod FreeLanes
+pub mod Thresholds
+pub mod Costless
+pub mod LaneChanges
+pub mod Clearing

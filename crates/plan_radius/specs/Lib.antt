@@ -1,0 +1,4 @@
+pub mod Radius
+pub mod Cheaper
+pub mod Changing
+pub mod Clearing
