@@ -1,0 +1,7 @@
+pub mod Calls
+pub mod MapKeeper
+pub mod Named
+pub mod Names
+pub mod Scenario
+pub mod Stored
+pub mod Table

@@ -1,0 +1,22 @@
+-- What is kept under a name.
+use Rattle.std.specs.Prelude.{ℕ, List, [], ◌∷◌, ◌++◌, refl}
+use Rattle.std.specs.Coded.{Coded, code_by, coded×, coded_list, coded_ℕ}
+
+-- a scenario: the text of its base instance, and the lines of the edits that lead on from it, in order
+pub record Scenario : Type 0 where
+  pub base : List ℕ
+  pub edits : List (List ℕ)
+
+-- a base without edits
+abbrev pub unedited : List ℕ → Scenario
+unedited base = record { base = base; edits = [] }
+
+-- the scenario with one more edit behind its others
+abbrev pub with_line : Scenario → List ℕ → Scenario
+with_line scenario line = record scenario { edits = scenario.edits ++ line ∷ [] }
+
+-- the code by which a struct can have a scenario as its value
+abbrev pub scenario_code : Coded Scenario
+scenario_code =
+    code_by (List ℕ × List (List ℕ)) (coded× (coded_list coded_ℕ) (coded_list (coded_list coded_ℕ)))
+    (λ s. (s.base, s.edits)) (λ p. record { base = p.0; edits = p.1 }) (λ _. refl)
