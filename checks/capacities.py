@@ -11,7 +11,7 @@ import itertools
 import random
 
 from common import MICRO, main, money
-from instances import DONE, MAX_AMOUNT, NO_PLAN, Fault, cost_of_plan
+from instances import MAX_AMOUNT, NO_PLAN, Fault, cost_of_plan
 from networks import read as read_network
 from solve import BAD_INPUT, NAMES, TOO_LARGE, USAGE, Task, costs, greatest, refuse, solve
 
@@ -37,8 +37,8 @@ def loads_of(places, demands, m):
 class Warehouses:
     """A random warehouse file, its walk over all ways to serve the customers, and its task."""
 
-    def __init__(self):
-        m, n = random.randrange(1, MOST_SITES + 1), random.randrange(1, MOST_CUSTOMERS + 1)
+    def __init__(self, most_customers=MOST_CUSTOMERS):
+        m, n = random.randrange(1, MOST_SITES + 1), random.randrange(1, most_customers + 1)
         fixed, lane = random.choice([(costs(), costs())] * 9 + [(greatest, greatest)])
         unit = random.choice([1, MICRO // 4, MICRO, 10**9])
         self.demands = self.some_demands(n, unit)

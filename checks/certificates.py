@@ -1,9 +1,10 @@
 """Compares the verdicts of a built program with those of a plain reading of docs/FORMATS.md: `certificates.py PROGRAM`.
 
 The reading stands in `verdicts.py`. Both are asked about a few certificates of the forms `ufl`, `cap`, `pmed` and `own`, with
-prices of capacities and of the number of sites, rays, splits on lanes and sites that must be open or stay closed: about all
-their proper prefixes, all deletions of one byte, and many random changes. Then about random trees over random small
-instances, whose splits may contradict each other and whose claims lie at the very cost at which a leaf closes and beside it;
+prices of capacities and of the number of sites, whole knapsacks, rays, splits on lanes and sites that must be open or stay
+closed: about all their proper prefixes, all deletions of one byte, and many random changes. Then about leaves of whole
+knapsacks that are as large as is allowed, or one unit larger; and about random trees over random small instances, whose
+splits may contradict each other and whose claims lie at the very cost at which a leaf closes and beside it;
 and about the certificates of searches, which have to have the yes of both, with their numbers changed by little. The program
 is asked besides about two files that are longer than any that is looked at.
 """
@@ -35,6 +36,9 @@ BOTH = (HEAD.format(3, 3, "bracket 2.000000 none") + "lane 1 2\nleaf 1 0\nv 2000
 PRICED = (HEAD.format(2, 2, "optimal 7504.750000") + "open 1 2\nserve 2 1\nsite 2\nleaf 0 0\nv 6000000 6000000\nu 1 1 2 1\n"
           "site 1\nleaf 0 0\nv 6000000 6000000\nu 2 1\nlane 1 2\nleaf 1000 0\nv 1250000000 3000000000\nu 1 250 2 40\n"
           "leaf 1000 0\nv 1250000000 3000000000\nu\nend\n")
+WHOLE = HEAD.format(2, 2, "optimal 7504.750000") + "open 1 2\nserve 2 1\nleaf 1 0\nv 7500250000 7503000000\nwhole\nend\n"
+RAYS = (HEAD.format(2, 2, "bracket 0.499986 none") + "site 2\nleaf 0 0\nv 1 1\nwhole\nlane 1 2\nlane 2 2\nleaf 0 0\nv 0 1\nwhole\n"
+        "leaf 1000 5\nv 9 -7\nwhole\nleaf 1 0\nv 0 0\nu\nend\n")
 COUNTED = HEAD.format(3, 3, "optimal 11.000000") + "open 2\nserve 2 2 2\nleaf 1 7500002\nv 7500001 3750001 7250000\nu\nend\n"
 OWN = """dualoc-instance 2
 sites 3 next 9
@@ -50,8 +54,15 @@ end
 SETTLED = ("dualoc-certificate 2\nsites 3 customers 2\nmust-open 3\nmust-closed 8\nclaim optimal 7504.750000\nopen 3 4\nserve 4 3\n"
            "site 4\nleaf 0 0\nv 6000000 6000000\nu 3 1\nlane 4 5\n"
            "leaf 1000 0\nv 1250000000 3000000000\nu\nleaf 1000 0\nv 1754000000 4504000000\nu 4 84\nend\n")
-FILES = [("ufl", PAIR, BEST), ("ufl", RING, SPLIT), ("ufl", RING, BOTH), ("cap", ROOMS, PRICED), ("pmed", NET, COUNTED),
+FILES = [("ufl", PAIR, BEST), ("ufl", RING, SPLIT), ("ufl", RING, BOTH), ("cap", ROOMS, PRICED),
+         ("cap", ROOMS, WHOLE), ("cap", ROOMS, RAYS), ("uncap", ROOMS, WHOLE), ("pmed", NET, COUNTED),
          ("own", OWN, SETTLED)]
+# A capacity, the demands of three customers, and whether whole knapsacks of this capacity are small, in a file and a certificate.
+LIMITS = [("1", ".4", ".300001", ".5", True), ("1.000001", ".4", ".300001", ".5", False), ("9", ".4", ".300001", ".299999", True),
+          ("9", ".4", ".300001", ".3", False), ("1000000.999999", "999999", "1", "1", True), ("1000001", "999999", "1", "1", False),
+          ("9", "0", "0", "0", True), ("0", "1000001", ".000001", "0", True)]
+LIMITED = "2 3\n{} 7\n.5 .5\n{} 1 0\n{} 2 .25\n{} 3 .25\n"
+LIMIT = HEAD.format(2, 3, "bracket 0.000001 none") + "leaf 1 0\nv 2000000 3000000 4000000\nwhole\nend\n"
 CHANGES = [(b"22.000000", b"21.000000"), (b"serve 1 1 1", b"serve 1 1 2"), (b" 2000000", b" 02000000"),
            (b"u\n", b"u 1 5\n"), (b"end\n", b""), (b"end\n", b"end\nx\n"), (b"open 1", b"open 7"),
            (b"customers 3", b"customers 4"), (b"9000000", b"8000000"), (b"9000000", b"9" * 100),
@@ -60,6 +71,9 @@ CHANGES = [(b"22.000000", b"21.000000"), (b"serve 1 1 1", b"serve 1 1 2"), (b" 2
            (b"must-open 3", b"must-open 4"), (b"must-open 3", b"must-open"), (b"must-open 3", b"must-open 3 8"),
            (b"must-open 3", b"must-open 3 9"), (b"must-open 3", b"must-open 8 3"), (b"must-open", b"must-opened"),
            (b"must-closed 8", b"must-closed 4294967296"), (b"-closed 8", b"-closed 08"), (b"open 3 4", b"open 4"),
+           *[(b"whole\n", line + b"\n") for line in (b"", b"u", b" whole", b"whole ", b"\twhole", b"whole\r", b"whole 1", b"whole 0 5",
+                                                    b"whole whole", b"whole u", b"u whole", b"Whole", b"whol", b"wholes", b"v 1 1")],
+           (b"u\n", b"whole\n"), (b"u 2 1\n", b"whole\n"), (b"leaf 0 0", b"leaf 0 1"), (b"7503000000", b"7502999999"),
            (b"open 3 4", b"open 3 4 8"), (b"open 3 4", b"open 3 4 9"), (b"open 3 4\nserve 4 3", b"open 4\nserve 4 4")]
 PIECES = b" \t\r\n+-0123456789.xnoneu\0\xff"
 # What has to be among the verdicts, so that the check doesn't become empty.
@@ -91,7 +105,15 @@ class Verdicts:
 
 
 def some_duals(inst):
-    """Duals of scale 1 and more around the costs, or small numbers of scale 0."""
+    """Duals of scale 1 and more around the costs, or small numbers of scale 0; by prices or by whole knapsacks."""
+    if random.random() < 0.4:
+        q, nu, v, _ = some_priced_duals(inst)
+        return q, nu, [random.choice([0, 1, 1]) for _ in v] if q == 0 and random.random() < 0.8 else v, None
+    return some_priced_duals(inst)
+
+
+def some_priced_duals(inst):
+    """The same by prices."""
     capped = [site for site in inst.sites if inst.capacities[site] is not None]
     q = random.choice([0, 1, 1, 1000, 10**6, random.randrange(1, 3000)])
     if q == 0:
@@ -113,8 +135,8 @@ def some_tree(inst, path, depth, leaves):
     if depth == 0 or random.random() < 0.3:
         q, nu, v, u = duals = some_duals(inst)
         leaves.append((path, duals))
-        prices = "".join(f" {site} {price}" for site, price in u.items())
-        return f"leaf {q} {nu}\nv {' '.join(map(str, v))}\nu{prices}\n"
+        third = "whole" if u is None else "u" + "".join(f" {site} {price}" for site, price in u.items())
+        return f"leaf {q} {nu}\nv {' '.join(map(str, v))}\n{third}\n"
     site, customer = random.choice(inst.sites), random.choice(inst.customers)
     if random.random() < 0.5:
         line, steps = f"site {site}\n", [("closed", site), ("opened", site)]
@@ -150,7 +172,10 @@ def some_certificate(inst, traits):
     ends = [(bound - 1) // q + 1 for bound, q in bounds if q > 0]
     low = max(0, min(ends, default=random.randrange(10 * MICRO)) + random.choice([0, 0, 0, 1, 1, -1]))
     traits["prices"] += any(duals[3] for _, duals in leaves)
-    traits["rays"] += any(q == 0 and bound >= 1 for bound, q in bounds)
+    rays = [duals for (_, duals), (bound, q) in zip(leaves, bounds) if q == 0 and bound >= 1]
+    traits["rays"] += any(duals[3] is not None for duals in rays)
+    traits["whole knapsacks"] += any(duals[3] is None for _, duals in leaves)
+    traits["rays of whole knapsacks"] += any(duals[3] is None for duals in rays)
     traits["lanes"] += "lane" in tree
     traits["counts"] += any(duals[1] for _, duals in leaves)
     traits["statuses"] += inst.of_status(FREE) != [*inst.sites]
@@ -218,6 +243,11 @@ def check(program):
             verdicts.compare(changed)
         for changed in texts(original, PIECES, CHANGED):
             verdicts.compare(changed)
+    for *words, small in LIMITS:
+        verdicts.take("cap", LIMITED.format(*words).encode())
+        due = verdicts.compare(LIMIT.encode())
+        if ("OutOfRange" in due) == small:
+            differs((verdicts.text, LIMIT), (due, 0), ("small" if small else "not small", 0))
     # Longer than the limit: a first line with a fault, and one without an end. What follows is a hole in the file.
     for front, due, status in [(b"x\n", "no BadLine line 1\n", 3), (b"x", "too large certificate\n", 8)]:
         program.write("k", front)

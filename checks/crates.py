@@ -1,5 +1,4 @@
 """What the checks of the repository's own texts share: the crates, and what their files declare."""
-import os
 import re
 from collections import defaultdict
 from pathlib import Path

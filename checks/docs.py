@@ -14,12 +14,12 @@ from crates import ROOT, below, code, definitions, lemmas, listed, pages
 
 CRATES = listed()
 # What a yes rests on: the checker, what reads an instance, and what prints the yes.
-CHECKER, READERS, PRINTS = "certificate_check", ("ufllib_read", "orlib_read", "pmed_paths", "instance_text"), ("dualoc_cli", "dualoc")
+CHECKER, READERS, PRINTS = "certificate_check", ("ufllib_read", "orlib_read", "pmed_paths", "instance_text", "instance_forms"), ("dualoc_cli", "dualoc")
 # Crates that are in no drawing: tests, and what they alone call.
-TESTS = {it for it in CRATES if it.endswith("_rows")} | {"example_instances"}
+TESTS = {it for it in CRATES if it.endswith("_rows")} | {"example_instances", "memory_runs"}
 # Words that stand in the place of names: the prover's, the forms', placeholders and the kit's crates.
 OTHER = {"List", "m", "n", "main", "duals", "cap", "uncap", "ufl", "pmed", "own", "capacity", "check",
-         "indexmap", "itoa", "thiserror", "rand_core", "rand_xoshiro"}
+         "indexmap", "itoa", "thiserror", "circular_buffer", "json", "serde_json", "rand_core", "rand_xoshiro"}
 RULE = re.compile(r"\|[-| ]+\|\Z")
 QUOTED = re.compile(r"`([^`\n]+)`")
 NAME = re.compile(r"[A-Za-z]\w*(?:(?:::|\.)[A-Za-z]\w*)*\Z")

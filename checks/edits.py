@@ -6,26 +6,17 @@ refused, lines that are none, and some that take edits back; then all edits are 
 own text is saved. Every reply and every text has to be as it is due, and the last text is the first one. Then each limit is
 met: of sites, customers, lanes and ids.
 
-The program is asked by `session own FILE`. One that has no sessions is passed over: a program that has no more than edits,
-undo and save is built of `checks/edits/main.txt` over this repository's crates, without proofs.
+What solves and answers are of a session is compared by `sessions.py`.
 """
 import dataclasses
-import importlib.machinery
-import importlib.util
-import os
 import random
 import re
-import shutil
-import subprocess
-import sys
 
-from common import MICRO, Program, differs, main, money
+from common import MICRO, differs, main
 from instances import DONE, MAX_AMOUNT, MOST_CUSTOMERS, MOST_LANES, MOST_SITES, amount_of, spelled
 from own import FREE, MAX_COUNT, STATUSES, Instance, file_at, random_own, spelled_out
 
-TOP = os.path.dirname(os.path.dirname(os.path.abspath(__file__)))
 LISTS, EDITS = 400, 50
-DRIVER = "instance_edits instance_text instance_store fixed_cost number_words shelf_lines shelf_port location_terms"
 
 
 class Refused(Exception):
@@ -317,34 +308,7 @@ def most_lanes(program):
         differs("an instance of all lanes that there may be", (said, DONE), ([due for _, due in turns], DONE))
 
 
-def built(folder):
-    """The program of the driver."""
-    top = os.path.join(folder, "repository")
-    left_out = shutil.ignore_patterns("out", "must-fail", "proofs")
-    for crate in os.listdir(f"{TOP}/crates"):
-        shutil.copytree(f"{TOP}/crates/{crate}", f"{top}/crates/{crate}", ignore=left_out)
-    shutil.rmtree(f"{top}/crates/dualoc")
-    os.makedirs(f"{top}/crates/dualoc/src")
-    os.mkdir(f"{top}/.git")
-    shutil.copy2(f"{TOP}/checks/edits/main.txt", f"{top}/crates/dualoc/src/main.rt")
-    for name in "HANDLES", "dualoc":
-        shutil.copy2(f"{TOP}/{name}", top)
-    with open(f"{TOP}/crates.txt") as rows, open(f"{top}/crates.txt", "w") as file:
-        file.writelines(row for row in rows if row.split(":")[0] not in ("dualoc", "dualoc_rows"))
-        file.write(f"dualoc: {DRIVER}\n")
-    # The script builds the program of the crate of this name.
-    loader = importlib.machinery.SourceFileLoader("script", f"{top}/dualoc")
-    script = importlib.util.module_from_spec(importlib.util.spec_from_loader("script", loader))
-    loader.exec_module(script)
-    if not script.build(script.crates_below(script.MAIN)):
-        sys.exit("check: the program of checks/edits can't be built")
-    return script.UNPROVED
-
-
 def check(program):
-    program.write("a", plain(1, 1).text())
-    if program.ask("session", "own", "a", stdin=subprocess.DEVNULL)[1] != DONE:
-        program = Program(built(program.folder), program.folder)
     faults = set()
     stood = sum(one_list(program, faults) for _ in range(LISTS))
     most_lanes(program)

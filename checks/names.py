@@ -11,11 +11,11 @@ from collections import defaultdict
 from crates import ROOT, heads, listed, pages
 
 # Names in docs/DEFINITIONS.md or docs/TRUST.md that have several meanings still.
-NAMED = """IsAnswerTo IsDecided IsVerdict end_of head_at lane_at lanes_at least_cost numbered""".split()
+NAMED = """IsAnswerTo IsDecided IsVerdict end_of head_at lane_at least_cost numbered""".split()
 # Other names of definitions that have several.
 OTHERS = """Answers AreAlike AreRooms AreWhole GoesOn IsKept IsLaneWalk IsLine IsNoWorse IsReached IsReady IsSearch IsSound
 IsStored IsUnread PassesLimit Suits array_sizes behind chosen claim_in cost_in counted customer_at entries_of is_among
-is_line_feed is_named joined lesser lowered nodes_shown placed plan_of read_faults_of with_lane write_faults_of""".split()
+is_line_feed is_named joined lesser lowered nodes_shown placed plan_of read_faults_of write_faults_of""".split()
 
 
 def defined():

@@ -15,7 +15,7 @@ UNMET = (
     "-- Of calls that are yet to come: no public contract cites this page.",
 )
 # Pages for private functions whose first line doesn't say so: the next change of their crate is to mend it.
-UNSAID = {("instance_store", "Columns"), ("plan_meaning", "Carried")}
+UNSAID = set()
 USE = re.compile(r"use Rattle\.(\w+)\.specs\.(\w+)(?:\.\{([^}]*)\}| as (\w+)|);?$", re.M)
 PUBLIC = re.compile(r"^pub use (?:\w+::)*(?:\{([^}]*)\}|(\w+));", re.M)
 WORD = re.compile(r"[^\W\d](?:[\w-]|\.(?=\w))*")

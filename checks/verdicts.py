@@ -1,5 +1,6 @@
 """A plain reading of what docs/FORMATS.md says of certificates: the verdict on a text. It goes over the whole list of a
-certificate's lines, and adds up every bound anew."""
+certificate's lines, and adds up every bound anew; of whole knapsacks it keeps a table of all weights that a set may have."""
+import math
 import re
 
 from common import money
@@ -9,7 +10,7 @@ from own import CLOSED, FREE, OPEN, read as read_own
 from warehouses import Warehouses
 
 MAX_COST, MAX_ID, MAX_SCALE, MAX_VALUE, MAX_PRICE = 8 * 10**18, 2**32 - 1, 10**6, 10**24, 10**18
-MOST_SITES, MOST_CUSTOMERS = 3000, 5000
+MOST_SITES, MOST_CUSTOMERS, MAX_UNITS = 3000, 5000, 10**6
 NUMBER, PLAIN_NUMBER = re.compile(rb"[-+]?[0-9]+\Z"), re.compile(rb"(0|-?[1-9][0-9]*)\Z")
 COST, PLAIN_COST = re.compile(rb"[0-9]+\.[0-9]+\Z"), re.compile(rb"(0|[1-9][0-9]*)\.[0-9]{6}\Z")
 
@@ -34,6 +35,10 @@ class Instance:
 
     def of_status(self, status):
         return [site for site in self.sites if self.statuses[site] == status]
+
+    def has_small_knapsacks(self):
+        total, unit = sum(self.demands.values()), math.gcd(*self.demands.values())
+        return total == 0 or all(cap is None or min(cap, total) // unit <= MAX_UNITS for cap in self.capacities.values())
 
     @staticmethod
     def of(form, text, given=None):
@@ -69,8 +74,24 @@ class Box:
         has_lane = self.inst.lanes[site][customer] is not None
         return has_lane and fits and not barred and site not in self.closed and not self.called & self.closed
 
+    def best_set(self, site, q, v):
+        """The greatest sum over a set of customers whom the site may serve together, by a table of weights."""
+        inst, capacity, best = self.inst, self.inst.capacities[site], {0: 0}
+        for customer, value in zip(inst.customers, v):
+            if self.allows(site, customer):
+                gain = value - q * inst.lanes[site][customer]
+                for weight, worth in [*best.items()]:
+                    more = weight + inst.demands[customer]
+                    if capacity is None or more <= capacity:
+                        best[more] = max(best.get(more, worth + gain), worth + gain)
+        return max(best.values())
+
     def slack(self, site, q, nu, v, u):
-        inst, price = self.inst, u.get(site, 0)
+        """By the prices `u` of capacities, or by whole knapsacks where there are none."""
+        inst = self.inst
+        if u is None:
+            return q * inst.fixed[site] + nu - self.best_set(site, q, v)
+        price = u.get(site, 0)
         slack = q * inst.fixed[site] + nu - price * (inst.capacities[site] or 0)
         for customer, value in zip(inst.customers, v):
             if self.allows(site, customer):
@@ -180,7 +201,8 @@ def judge_plan(reader, inst, cost):
 
 
 def read_duals(reader, inst, words):
-    """A leaf's scale, price of the number of sites, numbers of the customers and prices of capacities."""
+    """A leaf's scale, price of the number of sites, numbers of the customers and prices of capacities; with whole knapsacks it has
+    none of these."""
     q, nu = reader.numbers(words, words[1:])
     if not 0 <= q <= MAX_SCALE or abs(nu) > MAX_VALUE:
         reader.fault("OutOfRange")
@@ -191,6 +213,11 @@ def read_duals(reader, inst, words):
     if any(abs(value) > MAX_VALUE for value in v):
         reader.fault("OutOfRange")
     words = reader.next()
+    if words[:1] == [b"whole"]:
+        reader.fixed(words, [b"whole"])
+        if not inst.has_small_knapsacks():
+            reader.fault("OutOfRange")
+        return q, nu, v, None
     if words[:1] != [b"u"] or len(words) % 2 == 0:
         reader.fault("BadLine")
     pairs = reader.numbers(words, words[1:])
