@@ -1,8 +1,9 @@
 #!/usr/bin/env bash
-# `Tree::accepts` on a tree of about 10,000 leaves for 100 sites and 500 customers: nanoseconds for each
-# leaf and lane. Builds the program of bench/accepts over a copy of the crates, then takes the difference
-# between asking four times and asking once, the best of three.
+# `accepts.sh [SITES [CUSTOMERS [DEPTH]]]`: `Tree::accepts` on a tree of about 10,000 leaves for 100 sites and
+# 500 customers, in nanoseconds for each leaf and lane. Builds the program of bench/accepts over a copy of the
+# crates, then takes the difference between asking four times and asking once, the best of three.
 set -eu
+. "$(dirname "$0")/help.sh"
 top=$(cd "$(dirname "$0")/.." && pwd)
 sites=${1:-100}
 customers=${2:-500}

@@ -1,9 +1,10 @@
 #!/usr/bin/env bash
-# The ascent from zeros at scale 1, over instances in the plane and uniform ones: seconds, the lanes that it
-# visits and the nanoseconds for each, beside one pass over all lanes in the same program, and beside the same
-# procedure in C where a compiler is at hand. Times are differences between doing it more and less often, the
-# best of three.
+# `ascent.sh`: the ascent from zeros at scale 1, over instances in the plane and uniform ones: seconds, the
+# lanes that it visits and the nanoseconds for each, beside one pass over all lanes in the same program, and
+# beside the same procedure in C where a compiler is at hand. Times are differences between doing it more and
+# less often, the best of three.
 set -eu
+. "$(dirname "$0")/help.sh"
 top=$(cd "$(dirname "$0")/.." && pwd)
 dir=$(mktemp -d)
 trap 'rm -rf "$dir"' EXIT

@@ -4,10 +4,16 @@ One site is cheap, and its fixed cost is paid in equal parts by the customers' d
 of the root is the cost of opening it alone. A further decision on another site lowers no bound for the
 same duals. So each leaf of the full tree of that depth, which splits on the other sites, closes with them.
 """
+import argparse
 import random
-import sys
 
-sites, customers, depth = (int(word) for word in sys.argv[1:4])
+words = argparse.ArgumentParser(description=__doc__, formatter_class=argparse.RawDescriptionHelpFormatter)
+for number in ("sites", "customers", "depth"):
+    words.add_argument(number, type=int)
+words.add_argument("instance")
+words.add_argument("certificate")
+options = words.parse_args()
+sites, customers, depth = options.sites, options.customers, options.depth
 assert depth < sites
 random.seed(1)
 UNIT = 1_000_000
@@ -20,7 +26,7 @@ def amount(micro):
     return f"{micro // UNIT}.{micro % UNIT:06}"
 
 
-with open(sys.argv[4], "w") as file:
+with open(options.instance, "w") as file:
     file.write(f"{sites} {customers} 0\n")
     for site in range(1, sites + 1):
         if site == 1:
@@ -31,7 +37,7 @@ with open(sys.argv[4], "w") as file:
         file.write(f"{site} {amount(fixed)} {' '.join(map(amount, row))}\n")
 
 leaf = "leaf 1 0\nv " + " ".join(map(str, duals)) + "\nu\n"
-with open(sys.argv[5], "w") as file:
+with open(options.certificate, "w") as file:
     file.write("dualoc-certificate 1\n")
     file.write(f"sites {sites} customers {customers}\n")
     file.write(f"claim optimal {amount(sum(duals))}\n")

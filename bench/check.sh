@@ -1,7 +1,9 @@
 #!/usr/bin/env bash
-# Checking at full size: an accepted certificate of about 100 MB, whose leaves all carry duals. Prints the
-# best of three times of `dualoc check` and of `wc -w`, and the peak memory.
+# `check.sh [PROGRAM [SITES [CUSTOMERS [DEPTH]]]]`: checks, at full size, an accepted certificate of about 100
+# MB, whose leaves all carry duals. Prints the best of three times of `dualoc check` and of `wc -w`, and the
+# peak memory.
 set -eu
+. "$(dirname "$0")/help.sh"
 cd "$(dirname "$0")/.."
 program=${1:-crates/dualoc/out/dualoc}
 sites=${2:-20}

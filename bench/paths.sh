@@ -1,8 +1,10 @@
 #!/usr/bin/env bash
-# Networks at full size: cheapest walks between all pairs of vertices. Prints the processor seconds and the
-# peak memory of `dualoc duals pmed`, which also sorts the lanes and raises the duals, and the seconds of a
-# plain search in Python over a queue by cost, from all vertices of the smaller network alone.
+# `paths.sh [PROGRAM]`: cheapest walks between all pairs of vertices of networks at full size. Prints the
+# processor seconds and the peak memory of `dualoc duals pmed`, which also sorts the lanes and raises the
+# duals, and the seconds of a plain search in Python over a queue by cost, from all vertices of the smaller
+# network alone.
 set -eu
+. "$(dirname "$0")/help.sh"
 cd "$(dirname "$0")/.."
 program=${1:-crates/dualoc/out/dualoc}
 dir=$(mktemp -d)

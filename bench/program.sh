@@ -2,6 +2,7 @@
 # `program.sh DIR NAME CRATE ..`: builds the program bench/NAME/main.txt over the crates named, in a copy of
 # the repository's crates below DIR, and prints its path.
 set -eu
+. "$(dirname "$0")/help.sh"
 top=$(cd "$(dirname "$0")/.." && pwd)
 dir=$1
 name=$2

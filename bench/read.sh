@@ -1,7 +1,8 @@
 #!/usr/bin/env bash
-# Reading at full size: a file of 1,000 sites by 5,000 customers is read whole and answered
-# `too large sites`. Prints the best of three times of it and of `wc -w`, and the peak memory.
+# `read.sh [PROGRAM]`: a file of full size, 1,000 sites by 5,000 customers, is read whole and answered `too
+# large sites`. Prints the best of three times of it and of `wc -w`, and the peak memory.
 set -eu
+. "$(dirname "$0")/help.sh"
 cd "$(dirname "$0")/.."
 program=${1:-crates/dualoc/out/dualoc}
 dir=$(mktemp -d)

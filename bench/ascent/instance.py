@@ -1,9 +1,15 @@
 """Writes an instance: `instance.py KIND SITES CUSTOMERS FILE`, KIND `plane` (distances in a square) or `uniform`."""
+import argparse
 import math
 import random
-import sys
 
-kind, sites, customers = sys.argv[1], int(sys.argv[2]), int(sys.argv[3])
+words = argparse.ArgumentParser(description=__doc__)
+words.add_argument("kind", choices=["plane", "uniform"])
+words.add_argument("sites", type=int)
+words.add_argument("customers", type=int)
+words.add_argument("file")
+options = words.parse_args()
+kind, sites, customers = options.kind, options.sites, options.customers
 random.seed(f"{kind} {sites} {customers}")
 SIDE = 10_000
 
@@ -13,7 +19,7 @@ def places(n):
 
 
 near, far = places(customers), places(sites)
-with open(sys.argv[4], "w") as file:
+with open(options.file, "w") as file:
     file.write(f"{sites} {customers} 0\n")
     for site in range(sites):
         fixed = random.randrange(2 * SIDE, 4 * SIDE)
