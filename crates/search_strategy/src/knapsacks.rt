@@ -372,7 +372,7 @@ impl Knapsacks {
             extra,
             values,
         )?;
-        Ok(Move::Whole(duals))
+        Ok(Move::Closing(duals))
     }
 
     // Seeks a plan at the sites that most of the steps take, where it is time for that.

@@ -7,8 +7,8 @@ use plan_meaning::Plan;
 pub enum Move {
     /// Duals by prices, whose ascent becomes the leaf's where it is in range and has a greater bound.
     Duals(Duals),
-    /// Duals for whole knapsacks, which become the leaf's where they are in range and close its box.
-    Whole(Duals),
+    /// Duals for whole knapsacks, or of scale 0, which become the leaf's where they are in range and close its box.
+    Closing(Duals),
     /// A plan, which becomes the best one where it is feasible and costs less.
     Plan(Plan),
     /// Nothing this time: the strategy goes on when it is asked again.

@@ -53,8 +53,21 @@ module _ (I : Instance) (path : Path) (d : Duals) where
     pub made_by_prices : (cost : Option ℕ) → d.form ≡ Prices → IsMadeByPrices I old_path old path d → IsMadeLeaf I cost old_path old path d
     made_by_prices cost is made = subst (λ form. IsMadeIn form I cost old_path old path d) (sym is) made
 
-    pub made_whole : (cost : Option ℕ) → d.form ≡ Whole → LeafCloses I path d cost → IsMadeLeaf I cost old_path old path d
+    made_whole : (cost : Option ℕ) → d.form ≡ Whole → LeafCloses I path d cost → IsMadeLeaf I cost old_path old path d
     made_whole cost is closes = subst (λ form. IsMadeIn form I cost old_path old path d) (sym is) closes
+
+    -- what closes by whole knapsacks is made, and so is what closes at scale 0, in either form
+    pub made_closing : (cost : Option ℕ) → (d.form ≡ Whole) ⊎ (d.q ≡ 0) → LeafCloses I path d cost → IsMadeLeaf I cost old_path old path d
+    made_closing cost (inl is) closes = made_whole cost is closes
+    made_closing cost (inr none) closes = by d.form refl
+      where
+        by : (form : LeafForm) → d.form ≡ form → IsMadeIn d.form I cost old_path old path d
+        by Prices is = made_by_prices cost is (record {
+          fit = closes.fit.numbers;
+          ray = λ _. subst (λ x. pos 1 ≤ℤ x) (by_prices is) (ray_bound (leaf_bound I path d) d.q cost none closes.closed);
+          scaled = λ some. absurd (omega (arith, none, some));
+        })
+        by Whole is = made_whole cost is closes
 
     -- it is by prices, or it closes
     pub of_made : (cost : Option ℕ) → IsMadeLeaf I cost old_path old path d → ((d.form ≡ Prices) × IsMadeByPrices I old_path old path d) ⊎ ((d.form ≡ Whole) × LeafCloses I path d cost)
@@ -80,5 +93,5 @@ module _ (I : Instance) (path : Path) (d : Duals) where
     pub made_still : (new old_plan : Option Plan) → IsNoWorse I new old_plan → IsMadeLeaf I (cost_in I old_plan) old_path old path d → IsMadeLeaf I (cost_in I new) old_path old path d
     made_still new old_plan later made = elim (of_made (cost_in I old_plan) made) [
       | inl priced ↦ made_by_prices (cost_in I new) priced.0 priced.1
-      | inr whole ↦ made_whole (cost_in I new) whole.0 (record { fit = whole.1.fit; closed = closes_no_worse I (leaf_bound I path d) d.q new old_plan later whole.1.closed })
+      | inr whole ↦ made_closing (cost_in I new) (inl whole.0) (record { fit = whole.1.fit; closed = closes_no_worse I (leaf_bound I path d) d.q new old_plan later whole.1.closed })
     ]

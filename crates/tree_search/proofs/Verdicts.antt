@@ -18,10 +18,10 @@ use Rattle.tree_search.specs.Made.{IsMadeByPrices, NeedsSplit, IsOpenSplit}
 use Rattle.tree_search.specs.Rays.{IsRayIn, IsRayless}
 use Rattle.tree_search.specs.Making.{Making, LowersNone, IsMaking, StaysMaking}
 use Rattle.tree_search.specs.Answer.{cost_in}
-use Rattle.tree_search.specs.Working.{ClosesWith, IsSoughtAt, IsSettled, IsPressed, IsVerdict, IsWholeLeaf, IsWorked}
+use Rattle.tree_search.specs.Working.{ClosesWith, IsSoughtAt, IsSettled, IsPressed, IsClosingLeaf, IsVerdict, IsWorked}
 use Rattle.tree_search.proofs.Closer.{closes_at_least, closes_no_worse, closes_still, sought_still}
 use Rattle.tree_search.proofs.Comparing.{at_least_trans}
-use Rattle.tree_search.proofs.MadeLeaf.{by_prices, made_by_prices, made_whole, made_ray}
+use Rattle.tree_search.proofs.MadeLeaf.{by_prices, made_by_prices, made_closing, made_ray}
 use Rattle.tree_search.proofs.Offered.{closed_sought}
 use Rattle.tree_search.proofs.Settled.{settled}
 
@@ -124,11 +124,11 @@ ray_worked I path plan may_split old d ray = record {
   halved = tt;
 }
 
--- a box that whole knapsacks close
-pub whole_worked : (I : Instance) (path : Path) (plan : Option Plan) (may_split : Bool) (old d : Duals) → IsValid I → IsPathOf I path → IsWholeLeaf I plan path d → IsWorked I plan may_split old path d None
-whole_worked I path plan may_split old d valid known whole = record {
-  made = λ old_path lowers. made_whole I path d old_path old (cost_in I plan) whole.form whole.closes;
-  sought = closed_sought I path d plan valid known whole.closes.fit.numbers.of_instance whole.closes.closed;
-  whole = λ none. inl whole.closes.closed;
+-- a box that whole knapsacks or a ray close
+pub closing_worked : (I : Instance) (path : Path) (plan : Option Plan) (may_split : Bool) (old d : Duals) → IsValid I → IsPathOf I path → IsClosingLeaf I plan path d → IsWorked I plan may_split old path d None
+closing_worked I path plan may_split old d valid known closing = record {
+  made = λ old_path lowers. made_closing I path d old_path old (cost_in I plan) closing.form closing.closes;
+  sought = closed_sought I path d plan valid known closing.closes.fit.numbers.of_instance closing.closes.closed;
+  whole = λ none. inl closing.closes.closed;
   halved = tt;
 }

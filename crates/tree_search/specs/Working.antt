@@ -17,7 +17,7 @@ use Rattle.branch_tree.specs.Growing.{Growing}
 use Rattle.branch_tree.specs.Built.{IsBuiltOf, IsBuiltIn, IsDoneIn}
 use Rattle.dual_ascent.specs.Levels.{servers}
 use Rattle.tree_search.specs.declared.strengthen.Tried.{Tried}
-use Rattle.tree_search.specs.declared.strengthen.Tried.TheVariants.{More, Last, Whole}
+use Rattle.tree_search.specs.declared.strengthen.Tried.TheVariants.{More, Last, Closing}
 use Rattle.tree_search.specs.Made.{has_cap, IsMadeLeaf, NeedsSplit, IsOpenSplit, IsDueSplit}
 use Rattle.tree_search.specs.Making.{LowersNone}
 use Rattle.tree_search.specs.Answer.{cost_in}
@@ -28,16 +28,16 @@ use Rattle.tree_search.specs.Answer.{cost_in}
 abbrev pub ClosesWith : Instance → Option Plan → Path → Duals → Type 0
 ClosesWith I plan path d = BoundCloses (leaf_bound I path d) d.q (cost_in I plan)
 
--- the duals close the box by whole knapsacks
-pub record IsWholeLeaf (I : Instance) (plan : Option Plan) (path : Path) (d : Duals) : Type 0 where
-  pub form : d.form ≡ forms.Whole
+-- the duals close the box by whole knapsacks, or they have scale 0 and show it to be empty
+pub record IsClosingLeaf (I : Instance) (plan : Option Plan) (path : Path) (d : Duals) : Type 0 where
+  pub form : (d.form ≡ forms.Whole) ⊎ (d.q ≡ 0)
   pub closes : LeafCloses I path d (cost_in I plan)
 
--- what is told of a move: duals that close the box by whole knapsacks, or nothing
+-- what is told of a move: duals that close the box, or nothing
 abbrev pub Tells : Instance → Option Plan → Path → Tried → Type 0
 Tells I plan path More = Unit {0}
 Tells I plan path Last = Unit {0}
-Tells I plan path (Whole d) = IsWholeLeaf I plan path d
+Tells I plan path (Closing d) = IsClosingLeaf I plan path d
 
 -- the plan costs at most as much as what is packed at the tight sites of these duals
 abbrev pub IsSoughtAt : Instance → Option Plan → Path → Duals → Type 0

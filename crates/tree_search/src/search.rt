@@ -1,5 +1,5 @@
 //! What a search has in hand from box to box.
-ghost use Rattle.std.specs.Prelude.{◌≡◌, ◌↔◌, IfOk, IfSome, IsTrue};
+ghost use Rattle.std.specs.Prelude.{◌≡◌, ◌↔◌, ◌⊎◌, IfOk, IfSome, IsTrue};
 ghost use Rattle.location_terms.specs.Plan.{IsFeasible};
 ghost use Rattle.location_terms.specs.declared.form.LeafForm.TheVariants.{Whole};
 ghost use Rattle.location_terms.specs.Fit.{BoundCloses, DualsFit};
@@ -10,7 +10,7 @@ ghost use Rattle.strategy_port.specs.Scene.{IsScene};
 ghost use Rattle.tree_search.specs.Answer.{cost_in};
 ghost use Rattle.tree_search.specs.Best.{Improves};
 ghost use Rattle.tree_search.specs.Searching.{GoesOn, IsSearchAt};
-ghost use Rattle.tree_search.specs.Working.{IsWholeLeaf};
+ghost use Rattle.tree_search.specs.Working.{IsClosingLeaf};
 
 use crate::incumbent::Incumbent;
 use crate::leaf_maker::LeafMaker;
@@ -125,18 +125,18 @@ impl<'a> Search<'a> {
         self.leaf.take(boxed, self.order, duals);
     }
 
-    /// Whether these duals take whole knapsacks, suit them, and close the box against what the best plan costs: they
-    /// may then be the leaf. It fails only where memory runs out.
-    pub(crate) fn closes_whole(
+    /// Whether these duals, which take whole knapsacks or have scale 0, suit their form and close the box against what
+    /// the best plan costs: they may then be the leaf. It fails only where memory runs out.
+    pub(crate) fn closes_by(
         &mut self,
         boxed: &PreparedBox<'_>,
         duals: &Duals,
     ) -> Result<bool, NoMemory>
         requires { IsSearchAt boxed.now self.old }
-        ensures whole { IfOk result (λ yes. IsTrue yes → IsWholeLeaf boxed.now.instance self.old.best.plan boxed.now.path duals.now) }
+        ensures closing { IfOk result (λ yes. IsTrue yes → IsClosingLeaf boxed.now.instance self.old.best.plan boxed.now.path duals.now) }
         ensures kept { self.new ≡ self.old }
     {
-        if !is_whole(duals, boxed.instance(), &self.bounds) {
+        if !may_close(duals, boxed.instance(), &self.bounds) {
             return Ok(false);
         }
         let cost = self.incumbent.cost();
@@ -198,13 +198,14 @@ pub(crate) fn is_fit(duals: &Duals, inst: &Instance) -> bool
     fits(duals, inst).is_ok()
 }
 
-// Whether the duals are for as many sites and customers as the instance has, take whole knapsacks, and suit them.
-fn is_whole(duals: &Duals, inst: &Instance, bounds: &LeafBounds<'_>) -> bool
+// Whether the duals are for as many sites and customers as the instance has, take whole knapsacks or have scale 0, and
+// suit their form.
+fn may_close(duals: &Duals, inst: &Instance, bounds: &LeafBounds<'_>) -> bool
     requires { bounds.now ≡ inst.now }
-    ensures form { IsTrue result → duals.now.form ≡ Whole }
+    ensures form { IsTrue result → (duals.now.form ≡ Whole) ⊎ (duals.now.q ≡ 0) }
     ensures fit { IsTrue result → LeafFits inst.now duals.now }
 {
-    if duals.form() != LeafForm::Whole {
+    if duals.form() != LeafForm::Whole && duals.q() != 0 {
         return false;
     }
     if duals.customers() != inst.custs() || duals.sites() != inst.sites() {

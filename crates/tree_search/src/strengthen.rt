@@ -1,7 +1,7 @@
 //! What makes an open leaf stronger, and finds plans: moves that a strategy proposes.
 ghost use Rattle.std.specs.Prelude.{IfOk, IfSome, OnOk};
 ghost use Rattle.tree_search.specs.Searching.{IsSearchAt, GoesOn};
-ghost use Rattle.tree_search.specs.Working.{Tells, IsWholeLeaf};
+ghost use Rattle.tree_search.specs.Working.{Tells, IsClosingLeaf};
 
 use crate::search::Search;
 use dual_value::{Duals, PreparedBox};
@@ -18,12 +18,12 @@ enum Tried {
     More,
     // The strategy has no more.
     Last,
-    // These duals close the box by whole knapsacks.
-    Whole(Duals),
+    // These duals close the box, by whole knapsacks or as a ray.
+    Closing(Duals),
 }
 
 /// Makes an open leaf stronger, and looks for better plans, by what the strategy proposes, while the leaf is open.
-/// Where whole knapsacks close the box, the answer is their duals. It fails only where memory runs out.
+/// Where whole knapsacks or a ray close the box, the answer is their duals. It fails only where memory runs out.
 pub(crate) fn strengthen<S: Strategy>(
     search: &mut Search<'_>,
     strategy: &mut S,
@@ -31,14 +31,14 @@ pub(crate) fn strengthen<S: Strategy>(
 ) -> Result<Option<Duals>, NoMemory>
     requires { IsSearchAt boxed.now search.old }
     ensures on { OnOk result (GoesOn boxed.now search.old search.new) }
-    ensures whole { IfOk result (λ found. IfSome found (IsWholeLeaf boxed.now.instance search.new.best.plan boxed.now.path)) }
+    ensures closing { IfOk result (λ found. IfSome found (IsClosingLeaf boxed.now.instance search.new.best.plan boxed.now.path)) }
 {
     search.begin_asking();
     strategy.enter(&search.scene(boxed));
     for _turn in 0..MAX_MOVES {
         let next = strategy.next(&search.scene(boxed))?;
         match try_move(search, boxed, next)? {
-            Tried::Whole(duals) => return Ok(Some(duals)),
+            Tried::Closing(duals) => return Ok(Some(duals)),
             Tried::Last => return Ok(None),
             Tried::More => {}
         }
@@ -53,16 +53,16 @@ pub(crate) fn strengthen<S: Strategy>(
 fn try_move(search: &mut Search<'_>, boxed: &PreparedBox<'_>, next: Move) -> Result<Tried, NoMemory>
     requires { IsSearchAt boxed.now search.old }
     ensures on { OnOk result (GoesOn boxed.now search.old search.new) }
-    ensures whole { IfOk result (Tells boxed.now.instance search.new.best.plan boxed.now.path) }
+    ensures closing { IfOk result (Tells boxed.now.instance search.new.best.plan boxed.now.path) }
 {
     match next {
         Move::Duals(duals) => {
             search.propose(boxed, &duals);
             Ok(Tried::More)
         }
-        Move::Whole(duals) => {
-            if search.closes_whole(boxed, &duals)? {
-                return Ok(Tried::Whole(duals));
+        Move::Closing(duals) => {
+            if search.closes_by(boxed, &duals)? {
+                return Ok(Tried::Closing(duals));
             }
             Ok(Tried::More)
         }

@@ -35,7 +35,8 @@ impl Strategy for OneWhole {
             1 => {
                 let values = Vec::from_array(scene.alloc, self.values)?;
                 let inst = scene.boxed.instance();
-                Ok(Move::Whole(Duals::whole(scene.alloc, inst, 1000, 0, values)?))
+                let duals = Duals::whole(scene.alloc, inst, 1000, 0, values)?;
+                Ok(Move::Closing(duals))
             }
             _ => Ok(Move::Done),
         }

@@ -9,7 +9,7 @@ ghost use Rattle.tree_search.specs.Making.{LowersNone, IsMaking};
 ghost use Rattle.tree_search.specs.Best.{Improves};
 ghost use Rattle.tree_search.specs.Searching.{IsSearchAt, GoesOn};
 ghost use Rattle.tree_search.specs.Made.{IsOpenSplit};
-ghost use Rattle.tree_search.specs.Working.{ClosesWith, IsPressed, IsSettled, IsVerdict, IsWholeLeaf, IsWorked};
+ghost use Rattle.tree_search.specs.Working.{ClosesWith, IsPressed, IsSettled, IsClosingLeaf, IsVerdict, IsWorked};
 
 use crate::rays::ray;
 use crate::search::Search;
@@ -104,7 +104,7 @@ fn made<S: Strategy>(
 }
 
 // While the leaf is open: packs a plan at the tight sites of the plain ascent, and makes it stronger. Where whole
-// knapsacks close the box, the answer is their duals.
+// knapsacks or a ray close the box, the answer is their duals.
 fn press<S: Strategy>(
     search: &mut Search<'_>,
     strategy: &mut S,
@@ -113,7 +113,7 @@ fn press<S: Strategy>(
     requires { IsSearchAt boxed.now search.old }
     ensures on { OnOk result (GoesOn boxed.now search.old search.new) }
     ensures pressed { OnOk result (IsPressed boxed.now.instance search.new.best.plan boxed.now.path search.old.leaf.plain search.new.leaf.best.duals) }
-    ensures whole { IfOk result (λ found. IfSome found (IsWholeLeaf boxed.now.instance search.new.best.plan boxed.now.path)) }
+    ensures closing { IfOk result (λ found. IfSome found (IsClosingLeaf boxed.now.instance search.new.best.plan boxed.now.path)) }
 {
     if is_closed(search, boxed) {
         return Ok(None);

@@ -10,8 +10,8 @@ loop-turn-init g c = goes_same c.args.boxed.now c.args.search.now _ c.requires c
 pub loop-turn-preserved : goal.loop-turn-preserved
 loop-turn-preserved g c = goes_again c.args.boxed.now _ _ _ c.loop-turn.invariant c.in_ok-duals.ensures.on
 
-pub returns-in-Whole-clause-on : goal.returns-in-Whole-clause-on
-returns-in-Whole-clause-on g c = goes_again c.args.boxed.now _ _ _ c.loop-turn.invariant c.in_ok-duals.ensures.on
+pub returns-in-Closing-clause-on : goal.returns-in-Closing-clause-on
+returns-in-Closing-clause-on g c = goes_again c.args.boxed.now _ _ _ c.loop-turn.invariant c.in_ok-duals.ensures.on
 
 pub returns-in-Last-clause-on : goal.returns-in-Last-clause-on
 returns-in-Last-clause-on g c = goes_again c.args.boxed.now _ _ _ c.loop-turn.invariant c.in_ok-duals.ensures.on

@@ -3,13 +3,13 @@ use Rattle.std.specs.Prelude.{IfSome}
 use Rattle.location_terms.specs.Instance.{IsValid}
 use Rattle.location_terms.specs.Bound.{Duals}
 use Rattle.plan_search.specs.InBox.{IsNoWorse}
-use Rattle.tree_search.specs.Working.{IsVerdict, IsWholeLeaf, IsWorked}
+use Rattle.tree_search.specs.Working.{IsClosingLeaf, IsVerdict, IsWorked}
 use Rattle.tree_search.specs.Best.{Best, Improves}
 use Rattle.tree_search.specs.Making.{Making, IsMaking, StaysMaking}
 use Rattle.tree_search.specs.Searching.{Searching}
 use Rattle.tree_search.proofs.Offered.{improved_in, improves_again}
 use Rattle.tree_search.proofs.Going.{order_in, makes_in, goes_with}
-use Rattle.tree_search.proofs.Verdicts.{worked_from, whole_worked}
+use Rattle.tree_search.proofs.Verdicts.{worked_from, closing_worked}
 use Rattle.tree_search.proofs.work.made.Goals as goal
 
 pub settle-requires-clause-order : goal.settle-requires-clause-order
@@ -58,5 +58,5 @@ returns-in-Some-clause-worked g c = λ old under.
     let at = c.requires.at in
     let valid : IsValid I = subst IsValid (c.instance.ensures ∙ at.instance) c.sites-sites.ensures.valid in
     let plan = c.press.new.search.best.plan in
-    let whole : IsWholeLeaf I plan path c.in-Some.duals = subst (λ o. IfSome o (IsWholeLeaf I plan path)) c.in-Some.is c.in_ok-duals.ensures.whole in
-    whole_worked I path plan c.args.may_split old c.in-Some.duals valid at.path whole
+    let closing : IsClosingLeaf I plan path c.in-Some.duals = subst (λ o. IfSome o (IsClosingLeaf I plan path)) c.in-Some.is c.in_ok-duals.ensures.closing in
+    closing_worked I path plan c.args.may_split old c.in-Some.duals valid at.path closing
