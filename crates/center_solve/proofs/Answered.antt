@@ -1,9 +1,9 @@
 -- From what is known between two probes to the answer, and from what an answer shows to what it means.
-use Rattle.std.proofs.Common.{◌≡◌, ℕ, ◌<◌, ◌≤◌, None, Some, sym, subst, arith}
+use Rattle.std.proofs.Common.{◌≡◌, ℕ, ◌<◌, ◌≤◌, None, Some, sym, subst, inl, arith}
 use Rattle.location_terms.specs.declared.claim.Claim.TheVariants.{Infeasible as NoPlan}
 use Rattle.location_terms.specs.Instance.{Instance, IsValid}
 use Rattle.location_terms.specs.Optimal.{IsImpossible}
-use Rattle.location_terms.specs.Tree.{Tree}
+use Rattle.location_terms.specs.Tree.{Tree, nodes_of}
 use Rattle.location_terms.proofs.Claims.{claim_holds}
 use Rattle.plan_radius.specs.Radius.{radius_of, IsLeastRadius, IsAboveLanes}
 use Rattle.plan_radius.specs.Cheaper.{below_cost}
@@ -25,22 +25,23 @@ module _ (I : Instance) (valid : IsValid I) where
   -- what an answer means
   pub answer_holds : (budget : ℕ) (a : CenterAnswer) → IsCenterAnswer I budget a → CenterHolds I a
   answer_holds budget (Best radius plan tree) answer = (record { feasible = answer.0; least = subst (IsLeastRadius I) answer.1 (least radius tree answer.2) }, answer.1)
-  answer_holds budget (Infeasible tree) answer = impossible I tree valid answer
+  answer_holds budget (Infeasible tree) answer = impossible I tree valid answer.0
   answer_holds budget (Open low plan tree at probe) answer = (least low tree answer.shown, answer.feasible)
 
-  module _ (budget : ℕ) (k : Known) (known : IsKnownSoFar I k) where
+  module _ (budget : ℕ) (k : Known) (known : IsKnownSoFar I budget k) where
     -- the two ends have met
     pub best_answer : k.radius ≤ k.low → (a : CenterAnswer) → a ≡ Best k.radius k.plan k.tree → IsCenterAnswer I budget a
     best_answer met a is =
         let low : k.low ≤ radius_of I k.plan = least k.low k.tree known.shown k.plan known.feasible in
         let same : k.low ≡ k.radius = omega (arith, low, met, known.exact) in
-        subst (IsCenterAnswer I budget) (sym is) (known.feasible, known.exact, subst (λ r. ShowsNoPlan (below_cost I r) k.tree) same known.shown)
+        subst (IsCenterAnswer I budget) (sym is) (known.feasible, known.exact, subst (λ r. ShowsNoPlan (below_cost I r) k.tree) same known.shown, known.sized)
 
     module _ (at : ℕ) (above : k.low < at) (within : at ≤ k.radius) where
       -- the probe stayed open
       pub stopped_answer : (tree : Tree) → IsProbeOf I at budget (probes.Open tree) → (a : CenterAnswer) → a ≡ Open k.low (Some k.plan) k.tree at tree → IsCenterAnswer I budget a
       stopped_answer tree probe a is = subst (IsCenterAnswer I budget) (sym is) (record {
         shown = known.shown;
+        sized = known.sized;
         feasible = known.feasible;
         ended = probe.0;
         hard = probe.1;
@@ -51,11 +52,12 @@ module _ (I : Instance) (valid : IsValid I) where
   -- the first probe
   module _ (at : ℕ) (above : IsAboveLanes I at) where
     pub none_answer : (budget : ℕ) (tree : Tree) → IsProbeOf I at budget (probes.Empty tree) → IsCenterAnswer I budget (Infeasible tree)
-    none_answer budget tree probe = subst (λ J. ShowsNoPlan J tree) (below_all I at above) probe
+    none_answer budget tree probe = (subst (λ J. ShowsNoPlan J tree) (below_all I at above) probe.0, probe.1)
 
-    pub first_open : (budget low : ℕ) (tree probe : Tree) → low ≡ 0 → 0 < at → ShowsNoPlan (below_cost I low) tree → IsProbeOf I at budget (probes.Open probe) → IsCenterAnswer I budget (Open low None tree at probe)
-    first_open budget low tree probe least positive shown open_probe = record {
+    pub first_open : (budget low : ℕ) (tree probe : Tree) → low ≡ 0 → 0 < at → ShowsNoPlan (below_cost I low) tree → nodes_of tree ≡ 1 → IsProbeOf I at budget (probes.Open probe) → IsCenterAnswer I budget (Open low None tree at probe)
+    first_open budget low tree probe least positive shown one open_probe = record {
       shown = shown;
+      sized = inl one;
       feasible = tt;
       ended = open_probe.0;
       hard = open_probe.1;

@@ -1,5 +1,5 @@
 -- What a probe's search comes to says of the plans of a smaller radius.
-use Rattle.std.proofs.Common.{◌≡◌, ℕ, ◌+◌, ◌*◌, ◌^◌, ◌<◌, ◌≤◌, false, [], ◌∷◌, length, None, Some, is_some, refl, sym, ap, subst, ◌∙◌, arith, if◌then◌else◌}
+use Rattle.std.proofs.Common.{◌≡◌, ℕ, ◌+◌, ◌*◌, ◌^◌, ◌<◌, ◌≤◌, false, [], ◌∷◌, length, None, Some, is_some, refl, sym, ap, subst, ◌∙◌, inr, arith, if◌then◌else◌}
 use Rattle.std.proofs.lemmas.Bool.{false≢true}
 use Rattle.std.proofs.lemmas.List.Elements.{All-map}
 use Rattle.location_terms.specs.Instance.{Instance, Site, IsValid}
@@ -49,7 +49,7 @@ module _ (I : Instance) (at : ℕ) where
 
   probe_shows : IsValid I → (budget : ℕ) (a : Answer) → IsAnswerTo Z (root_of Z) None budget a → IsProbeOf I at budget (probe_in a)
   probe_shows valid budget (Optimal plan cost tree made) answer = found valid plan answer.accepted.shows.0.0
-  probe_shows valid budget (Infeasible tree made) answer = shows_costless (below_cost I at) tree answer.accepted
+  probe_shows valid budget (Infeasible tree made) answer = (shows_costless (below_cost I at) tree answer.accepted, inr (at, answer.grown, omega (arith, answer.made, answer.within)))
   probe_shows valid budget (Bracket low (Some plan) tree made) answer = found valid plan answer.accepted.shows.0.0
   probe_shows valid budget (Bracket low None tree made) answer = (
     record {

@@ -1,5 +1,5 @@
 -- What a search for a center answers: by a tree that shows that no plan has a smaller radius, or by the probe that spent its budget.
-use Rattle.std.specs.Prelude.{◌≡◌, ℕ, ◌+◌, ◌<◌, ◌≤◌, Option, None, IfSome, MatchOption}
+use Rattle.std.specs.Prelude.{◌≡◌, ◌⊎◌, ℕ, ◌+◌, ◌<◌, ◌≤◌, Option, None, IfSome, MatchOption}
 use Rattle.location_terms.specs.declared.claim.Claim.TheVariants.{Infeasible as NoPlan}
 use Rattle.location_terms.specs.Instance.{Instance}
 use Rattle.location_terms.specs.Plan.{Plan, IsFeasible}
@@ -41,10 +41,15 @@ pub record IsOpenProbe (Z : Instance) (budget : ℕ) (probe : Tree) : Type 0 whe
   pub unfinished : HasOpenLeaf Z probe None
   pub spent : budget < nodes_of probe + 1
 
+-- The tree is one leaf, or that of a probe: it grew from the root leaf, within the budget.
+abbrev pub IsTreeOfProbe : Instance → ℕ → Tree → Type 0
+IsTreeOfProbe I budget t = (nodes_of t ≡ 1) ⊎ ((at : ℕ) × IsGrownFrom (probed I at) None None (root_of (probed I at)) t × (nodes_of t ≤ budget + 1))
+
 -- The search ended with an open probe at a cost: no plan's radius is below the low end, and the best plan that is known, if one is, has a radius of
 -- at least the probe's cost. Without a plan the first probe ended it, whose cost is above that of every lane.
 pub record IsOpenCenter (I : Instance) (budget low : ℕ) (plan : Option Plan) (tree : Tree) (at : ℕ) (probe : Tree) : Type 0 where
   pub shown : ShowsNoPlan (below_cost I low) tree
+  pub sized : IsTreeOfProbe I budget tree
   pub feasible : IfSome plan (IsFeasible I)
   pub ended : IsOpenProbe (probed I at) budget probe
   -- only capacities or the number of open sites make a probe hard
@@ -54,8 +59,8 @@ pub record IsOpenCenter (I : Instance) (budget low : ℕ) (plan : Option Plan) (
 
 -- what each answer shows
 abbrev pub IsCenterAnswer : Instance → ℕ → CenterAnswer → Type 0
-IsCenterAnswer I budget (Best radius plan tree) = IsFeasible I plan × (radius ≡ radius_of I plan) × ShowsNoPlan (below_cost I radius) tree
-IsCenterAnswer I budget (Infeasible tree) = ShowsNoPlan I tree
+IsCenterAnswer I budget (Best radius plan tree) = IsFeasible I plan × (radius ≡ radius_of I plan) × ShowsNoPlan (below_cost I radius) tree × IsTreeOfProbe I budget tree
+IsCenterAnswer I budget (Infeasible tree) = ShowsNoPlan I tree × IsTreeOfProbe I budget tree
 IsCenterAnswer I budget (Open low plan tree at probe) = IsOpenCenter I budget low plan tree at probe
 
 -- what each answer means for the plans of the instance, whatever shows it

@@ -15,7 +15,7 @@ use Rattle.center_solve.specs.declared.known.Step.{Step}
 use Rattle.center_solve.specs.declared.known.Step.TheVariants as steps
 use Rattle.center_solve.specs.declared.probe.Finding.{Finding}
 use Rattle.center_solve.specs.declared.probe.Finding.TheVariants.{Found, Empty, Open}
-use Rattle.center_solve.specs.Center.{ShowsNoPlan, IsOpenProbe, probed, IsCenterAnswer}
+use Rattle.center_solve.specs.Center.{ShowsNoPlan, IsOpenProbe, IsTreeOfProbe, probed, IsCenterAnswer}
 
 -- what a search that was cut off gives
 abbrev pub found_or_open : Option Plan → Tree → Finding
@@ -31,7 +31,7 @@ probe_in (answers.Bracket low plan tree made) = found_or_open plan tree
 -- a plan of a smaller radius, or a tree that shows that there is none, or a search that stayed open
 abbrev pub IsProbeOf : Instance → ℕ → ℕ → Finding → Type 0
 IsProbeOf I at budget (Found plan) = IsFeasible I plan × (radius_of I plan < at)
-IsProbeOf I at budget (Empty tree) = ShowsNoPlan (below_cost I at) tree
+IsProbeOf I at budget (Empty tree) = ShowsNoPlan (below_cost I at) tree × IsTreeOfProbe I budget tree
 IsProbeOf I at budget (Open tree) = IsOpenProbe (probed I at) budget tree × (HasNoCaps I → HasFreeCount I → ⊥)
 
 -- the probe came to an end
@@ -41,14 +41,15 @@ IsClear (Empty tree) = Unit {0}
 IsClear (Open tree) = ⊥
 
 -- a plan with its radius, and a cost below which, as a tree shows, no plan's radius is
-pub record IsKnownSoFar (I : Instance) (k : Known) : Type 0 where
+pub record IsKnownSoFar (I : Instance) (budget : ℕ) (k : Known) : Type 0 where
   pub shown : ShowsNoPlan (below_cost I k.low) k.tree
+  pub sized : IsTreeOfProbe I budget k.tree
   pub feasible : IsFeasible I k.plan
   pub exact : k.radius ≡ radius_of I k.plan
 
 -- a step brings both ends nearer or ends the search
 abbrev pub IsStepFrom : Instance → ℕ → Known → Step → Type 0
-IsStepFrom I budget old (steps.On new) = IsKnownSoFar I new × (old.low ≤ new.low) × (new.radius ≤ old.radius) × (new.radius + old.low < old.radius + new.low)
+IsStepFrom I budget old (steps.On new) = IsKnownSoFar I budget new × (old.low ≤ new.low) × (new.radius ≤ old.radius) × (new.radius + old.low < old.radius + new.low)
 IsStepFrom I budget old (steps.Ends answer) = IsCenterAnswer I budget answer
 
 -- the step didn't end the search

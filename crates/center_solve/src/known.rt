@@ -43,7 +43,7 @@ pub(crate) fn narrowed(
 ) -> Result<CenterAnswer, NoMemory>
     requires within { IsWithin inst.now budget }
     requires valid { IsValid inst.now }
-    requires known { IsKnownSoFar inst.now known }
+    requires known { IsKnownSoFar inst.now budget known }
     ensures answer { IfOk result (IsCenterAnswer inst.now budget) }
     ensures settled { 2 ^ (most_decisions inst.now + 1) ≤ budget → IfOk result HasEndedSearch }
 {
@@ -67,7 +67,7 @@ fn narrow(
 ) -> Result<Step, NoMemory>
     requires within { IsWithin inst.now budget }
     requires valid { IsValid inst.now }
-    requires known { IsKnownSoFar inst.now known }
+    requires known { IsKnownSoFar inst.now budget known }
     requires apart { known.low < known.radius }
     ensures step { IfOk result (IsStepFrom inst.now budget known) }
     ensures on { 2 ^ (most_decisions inst.now + 1) ≤ budget → IfOk result IsGoingOn }

@@ -5,7 +5,7 @@ ghost use Rattle.tree_search.specs.Answer.{IsWithin, most_decisions};
 ghost use Rattle.center_solve.specs.Center.{probed};
 ghost use Rattle.center_solve.specs.Probing.{found_or_open, probe_in, IsProbeOf, IsClear};
 
-use crate::searched::searched;
+use crate::searched::searched_freely;
 use instance_store::{Instance, NoMemory};
 use plan_meaning::Plan;
 use plan_radius::{below_cost, clear_costs};
@@ -36,7 +36,7 @@ pub(crate) fn probe(
     ensures clear { 2 ^ (most_decisions inst.now + 1) ≤ budget → IfOk result IsClear }
 {
     let free = probe_instance(alloc, inst, at)?;
-    let answer = searched(alloc, &free, budget)?;
+    let answer = searched_freely(alloc, &free, budget)?;
     Ok(probe_of(answer))
 }
 

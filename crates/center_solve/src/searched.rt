@@ -1,14 +1,16 @@
-//! A search that begins with nothing.
+//! Searches that begin with nothing.
 ghost use Rattle.std.specs.Prelude.{None, IfOk};
 ghost use Rattle.lane_order.specs.Order.{IsOrderOf};
 ghost use Rattle.tree_search.specs.Answer.{IsWithin, IsAnswerTo};
 ghost use Rattle.center_solve.specs.Center.{root_of};
 
+use cover_strategy::{CoverStrategy, covering_of, is_count_tight};
 use instance_store::{Instance, NoMemory};
 use lane_order::LaneOrder;
+use plan_search::has_no_caps;
 use search_strategy::SearchStrategy;
 use std::alloc::Global;
-use tree_search::{Answer, Strategy, Tree, grow};
+use tree_search::{Answer, PlainStrategy, Strategy, Tree, grow};
 
 /// What a search of the instance comes to, from the root leaf of zeros and without a plan. It fails only
 /// where memory runs out.
@@ -18,7 +20,53 @@ pub(crate) fn searched(alloc: Global, inst: &Instance, budget: u32) -> Result<An
 {
     let order = LaneOrder::of(alloc, inst)?;
     let strategy = SearchStrategy::of(alloc, inst, &order, None)?;
+    if counts(inst) {
+        let answer = counted(alloc, inst, &order, strategy, budget)?;
+        return Ok(answer);
+    }
     let answer = grown(alloc, inst, &order, strategy, budget)?;
+    Ok(answer)
+}
+
+/// The same for an instance in which nothing costs anything: where few sites may be open, and any of them can serve
+/// any number of customers, these are all that is counted.
+pub(crate) fn searched_freely(
+    alloc: Global,
+    inst: &Instance,
+    budget: u32,
+) -> Result<Answer, NoMemory>
+    requires { IsWithin inst.now budget }
+    ensures { IfOk result (IsAnswerTo inst.now (root_of inst.now) None budget) }
+{
+    if !counts(inst) {
+        return searched(alloc, inst, budget);
+    }
+    let order = LaneOrder::of(alloc, inst)?;
+    let answer = counted(alloc, inst, &order, PlainStrategy, budget)?;
+    Ok(answer)
+}
+
+// Whether the number of open sites is what makes a plan hard to find.
+fn counts(inst: &Instance) -> bool {
+    has_no_caps(inst) && is_count_tight(inst)
+}
+
+// What a search comes to that also counts sites.
+fn counted<S: Strategy + Drop>(
+    alloc: Global,
+    inst: &Instance,
+    order: &LaneOrder,
+    first: S,
+    budget: u32,
+) -> Result<Answer, NoMemory>
+    requires order { IsOrderOf order.now inst.now }
+    requires within { IsWithin inst.now budget }
+    ensures { IfOk result (IsAnswerTo inst.now (root_of inst.now) None budget) }
+{
+    let sites = covering_of(alloc, inst)?;
+    let by_cost = LaneOrder::of(alloc, &sites)?;
+    let strategy = CoverStrategy::of(alloc, &sites, &by_cost, inst.count(), first)?;
+    let answer = grown(alloc, inst, order, strategy, budget)?;
     Ok(answer)
 }
 
