@@ -42,6 +42,34 @@ pub torn_alike : (I : Instance) (p : Path) (J : Instance) (r : Path) → length 
 torn_alike I p J r same h =
     any_same (λ s. is_called_for p s && is_closed p s) (λ s. is_called_for r s && is_closed r s) _ I.sites J.sites same (λ i b. λ k. called_alike I p J r i (h i b) k && closed_alike I p J r i (h i b) k)
 
+-- all that what is paid at the site at this place is made of is the same
+pub record IsPaidAlike (I : Instance) (p : Path) (d : Duals) (J : Instance) (r : Path) (e : Duals) (i : ℕ) : Type 0 where
+  pub cap : (site_at I i).cap ≡ (site_at J i).cap
+  pub settled : IsSettledAlike I p J r i
+  pub torn : is_torn I p ≡ is_torn J r
+  pub customers : I.customers ≡ J.customers
+  pub lanes : (c : ℕ) → lane I (site_at I i).id c ≡ lane J (site_at J i).id c
+  pub bars : (j : ℕ) → j < length I.customers → list_any (bars_lane (site_at I i).id (customer_at I j).id) p ≡ list_any (bars_lane (site_at J i).id (customer_at J j).id) r
+  pub q : d.q ≡ e.q
+  pub v : d.v ≡ e.v
+  pub u : u_at d i ≡ u_at e i
+
+module _ (I : Instance) (p : Path) (d : Duals) (J : Instance) (r : Path) (e : Duals) (i : ℕ) (h : IsPaidAlike I p d J r e i) where
+  customer_same : (j : ℕ) → customer_at I j ≡ customer_at J j
+  customer_same j = ap (λ (cs : List Customer). slice_index_or cs j (record { id = 0; demand = 0 })) h.customers
+
+  lane_same : (j : ℕ) → lane I (site_at I i).id (customer_at I j).id ≡ lane J (site_at J i).id (customer_at J j).id
+  lane_same j = h.lanes (customer_at I j).id ∙ ap (λ (c : Customer). lane J (site_at J i).id c.id) (customer_same j)
+
+  paid_same : (j : ℕ) → j < length I.customers → paid_at I p d i j ≡ paid_at J r e i j
+  paid_same j b = λ k.
+      if not (h.torn k) && is_some (lane_same j k) && not (closed_alike I p J r i h.settled k) && not (h.bars j b k) && holds_demand (h.cap k) (customer_same j k).demand
+      then int_max (pos 0) (slice_index_or (h.v k) j (pos 0) -ℤ pos (h.q k * unwrap_or (lane_same j k) 0 + h.u k * (customer_same j k).demand))
+      else pos 0
+
+  pub paid_alike : total (paid_at I p d i) (length I.customers) ≡ total (paid_at J r e i) (length J.customers)
+  paid_alike = total_same (paid_at I p d i) (paid_at J r e i) (length I.customers) paid_same ∙ ap (λ (cs : List Customer). total (paid_at J r e i) (length cs)) h.customers
+
 -- all that the slack of the site at this place is made of is the same
 pub record IsMadeAlike (I : Instance) (p : Path) (d : Duals) (J : Instance) (r : Path) (e : Duals) (i : ℕ) : Type 0 where
   pub site : site_at I i ≡ site_at J i
@@ -56,22 +84,9 @@ pub record IsMadeAlike (I : Instance) (p : Path) (d : Duals) (J : Instance) (r :
   pub u : u_at d i ≡ u_at e i
 
 module _ (I : Instance) (p : Path) (d : Duals) (J : Instance) (r : Path) (e : Duals) (i : ℕ) (h : IsMadeAlike I p d J r e i) where
-  customer_same : (j : ℕ) → customer_at I j ≡ customer_at J j
-  customer_same j = ap (λ (cs : List Customer). slice_index_or cs j (record { id = 0; demand = 0 })) h.customers
-
-  lane_same : (j : ℕ) → lane I (site_at I i).id (customer_at I j).id ≡ lane J (site_at J i).id (customer_at J j).id
-  lane_same j = h.lanes (customer_at I j).id ∙ ap (λ (c : Customer). lane J (site_at J i).id c.id) (customer_same j)
-
-  paid_same : (j : ℕ) → j < length I.customers → paid_at I p d i j ≡ paid_at J r e i j
-  paid_same j b = λ k.
-      if not (h.torn k) && is_some (lane_same j k) && not (closed_alike I p J r i h.settled k) && not (h.bars j b k) && holds_demand (h.site k).cap (customer_same j k).demand
-      then int_max (pos 0) (slice_index_or (h.v k) j (pos 0) -ℤ pos (h.q k * unwrap_or (lane_same j k) 0 + h.u k * (customer_same j k).demand))
-      else pos 0
-
   pub slack_alike : slack_of I p d i ≡ slack_of J r e i
   slack_alike =
-      let all : total (paid_at I p d i) (length I.customers) ≡ total (paid_at J r e i) (length J.customers) =
-      total_same (paid_at I p d i) (paid_at J r e i) (length I.customers) paid_same ∙ ap (λ (cs : List Customer). total (paid_at J r e i) (length cs)) h.customers in
+      let all = paid_alike I p d J r e i (record { cap = λ k. (h.site k).cap; settled = h.settled; torn = h.torn; customers = h.customers; lanes = h.lanes; bars = h.bars; q = h.q; v = h.v; u = h.u }) in
       λ k. ((pos (h.q k * (h.site k).fixed) +ℤ h.nu k) -ℤ pos (cap_price (h.u k) (h.site k).cap)) -ℤ all k
 
   pub share_alike : share_of I p d i ≡ share_of J r e i

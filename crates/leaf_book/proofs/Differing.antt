@@ -1,15 +1,16 @@
 -- In what the instance before an edit and the one behind it differ, and how large it gets.
-use Rattle.std.proofs.Common.{◌≡◌, ℕ, ◌<◌, ◌≤◌, ◌+◌, refl, ap, sym, subst, ◌∙◌, arith, Bool, true, false, cond, List, [], ◌∷◌, ◌++◌, map, length, length-append, get_or, take, drop, Option, None, Some}
-use Rattle.std.specs.Prelude.{◌==◌, not, filter, find, insert, IsSomeAnd, Ok, if◌then◌else◌}
+use Rattle.std.proofs.Common.{◌≡◌, ◌≢◌, ℕ, suc, ◌<◌, ◌≤◌, ◌+◌, refl, ap, sym, subst, ◌∙◌, arith, Bool, true, false, cond, List, [], ◌∷◌, ◌++◌, map, length, length-append, get_or, take, drop, Option, None, Some}
+use Rattle.std.specs.Prelude.{◌==◌, not, filter, find, insert, IsSomeAnd, Ok, option_map, unwrap_or, if◌then◌else◌}
 use Rattle.std.specs.Bool.{then_some}
 use Rattle.std.specs.FinMap.{get}
-use Rattle.std.proofs.lemmas.Bool.{ne_eqb}
+use Rattle.std.specs.List.Sorted.{IsStrictlyIncreasing}
+use Rattle.std.proofs.lemmas.Bool.{ne_eqb, eqb-true}
 use Rattle.std.proofs.lemmas.List.{length-map, length-take, length-drop, get_or-map}
 use Rattle.std.proofs.lemmas.List.Filters.{length-filter_both}
-use Rattle.location_terms.specs.Instance.{Instance, IsValid, Site, Customer, site_at, site_ids}
+use Rattle.location_terms.specs.Instance.{Instance, IsValid, Site, Customer, site_at, site_ids, fixed_of}
 use Rattle.location_terms.proofs.Places.{length-site_ids}
 use Rattle.location_terms.proofs.Table.{pair_apart}
-use Rattle.instance_store.specs.Changes.{with_site, with_customer, with_lane_cost}
+use Rattle.instance_store.specs.Changes.{with_site, with_customer, with_fixed, with_lane_cost}
 use Rattle.instance_edits.specs.declared.edit.Edit.{Edit}
 use Rattle.instance_edits.specs.declared.edit.Edit.TheVariants.{SetFixed, SetLane, SetDemand, SetCap, SetCount, AddSite, AddCust, DropSite, DropCust, SetStatus}
 use Rattle.instance_edits.specs.declared.edit.EditFault.{EditFault}
@@ -17,13 +18,14 @@ use Rattle.instance_edits.specs.declared.edit.Inverse.{Inverse}
 use Rattle.instance_edits.specs.declared.edit.Inverse.TheVariants.{FormerFixed, FormerLane, FormerDemand, FormerCap, FormerCount, AddedSite, AddedCust, DroppedSite, DroppedCust, FormerStatus}
 use Rattle.instance_edits.specs.Edits.{changed, edited, faults_of, unless_refused}
 use Rattle.instance_edits.specs.Undo.{suits, put_back, undone, LeadsBack}
-use Rattle.instance_edits.proofs.LaneEdits.{get-lanes_with}
+use Rattle.instance_edits.proofs.LaneEdits.{get-lanes_with, lanes_with_back}
+use Rattle.instance_edits.proofs.ListEdits.{map_back, found}
 use Rattle.location_terms.specs.Tree.{Tree}
 use Rattle.leaf_book.specs.declared.change.Change.{Change}
-use Rattle.leaf_book.specs.declared.change.Change.TheVariants.{Site as AtSite, Count, All as Any}
+use Rattle.leaf_book.specs.declared.change.Change.TheVariants.{Fixed as AtFixed, Lane as AtLane, Site as AtSite, Count, All as Any}
 use Rattle.leaf_book.specs.Book.{Book, IsBookOf}
 use Rattle.leaf_book.specs.BookDue.{IsBookDue}
-use Rattle.leaf_book.specs.Changes.{DifferAtSite, DifferBy, change_of}
+use Rattle.leaf_book.specs.Changes.{DifferAtSite, DifferBy, change_of, change_back}
 
 -- One site is changed, but for its id and its status.
 module _ (I : Instance) (s : ℕ) (f : Site → Site) (same_id : (x : Site) → (f x).id ≡ x.id) (same_status : (x : Site) → (f x).status ≡ x.status) where
@@ -35,18 +37,23 @@ module _ (I : Instance) (s : ℕ) (f : Site → Site) (same_id : (x : Site) → 
   one_status true x = same_status x
   one_status false x = refl
 
-  ids_same : (xs : List Site) → map (λ x. x.id) (map (λ x. if x.id == s then f x else x) xs) ≡ map (λ x. x.id) xs
-  ids_same [] = refl
-  ids_same (x ∷ xs) = λ k. one_id (x.id == s) x k ∷ ids_same xs k
+  -- what goes by the id and other things that stay is the same of each site
+  pub mapped_as_before : {A : Type 0} (g : Site → A) → ((x : Site) → g (f x) ≡ g x) → (xs : List Site) → map g (map (λ x. if x.id == s then f x else x) xs) ≡ map g xs
+  mapped_as_before g same [] = refl
+  mapped_as_before g same (x ∷ xs) = λ k. one (x.id == s) k ∷ mapped_as_before g same xs k
+    where
+      one : (b : Bool) → g (if b then f x else x) ≡ g x
+      one true = same x
+      one false = refl
 
-  site_is : (i : ℕ) → i < length I.sites → site_at (with_site I s f) i ≡ (if (site_at I i).id == s then f (site_at I i) else site_at I i)
+  pub site_is : (i : ℕ) → i < length I.sites → site_at (with_site I s f) i ≡ (if (site_at I i).id == s then f (site_at I i) else site_at I i)
   site_is i b = get_or-map (λ (x : Site). if x.id == s then f x else x) I.sites i _ _ b
 
   pub site_differs : DifferAtSite (with_site I s f) I s
   site_differs =
       let inside : (i : ℕ) → i < length (with_site I s f).sites → i < length I.sites = λ i b. omega (arith, b, length-map I.sites (λ (x : Site). if x.id == s then f x else x)) in
       record {
-        ids = ids_same I.sites;
+        ids = mapped_as_before (λ x. x.id) same_id I.sites;
         customers = refl;
         statuses = λ i b. ap (λ (x : Site). x.status) (site_is i (inside i b)) ∙ one_status ((site_at I i).id == s) (site_at I i);
         others = λ i b other.
@@ -69,7 +76,7 @@ lane_differs I s c cost = record {
   hi = refl;
 }
 
-site_turned : (I J : Instance) (s : ℕ) → DifferAtSite I J s → DifferAtSite J I s
+pub site_turned : (I J : Instance) (s : ℕ) → DifferAtSite I J s → DifferAtSite J I s
 site_turned I J s d =
     let many : length I.sites ≡ length J.sites = sym (length-site_ids I) ∙ ap length d.ids ∙ length-site_ids J in
     record {
@@ -89,24 +96,31 @@ site_turned I J s d =
         let many : length I.sites ≡ length J.sites = sym (length-site_ids I) ∙ ap length ids ∙ length-site_ids J in
         sym (get_or-map (λ (x : Site). x.id) I.sites i _ 0 b) ∙ ap (λ (xs : List ℕ). get_or xs i 0) ids ∙ get_or-map (λ (x : Site). x.id) J.sites i _ 0 (omega (arith, b, many))
 
--- what is put back differs from what it was put back on in what the change names
-pub differs_forth : (I : Instance) (back : Inverse) → DifferBy (change_of back) (put_back I back) I
-differs_forth I (FormerFixed s cost) = site_differs I s (λ x. record x { fixed = cost }) (λ _. refl) (λ _. refl)
-differs_forth I (FormerLane s c cost) = lane_differs I s c cost
-differs_forth I (FormerDemand c demand) = tt
-differs_forth I (FormerCap s most) = site_differs I s (λ x. record x { cap = most }) (λ _. refl) (λ _. refl)
-differs_forth I (FormerCount lo hi) = record { sites = refl; customers = refl; lanes = refl }
-differs_forth I (AddedSite s) = tt
-differs_forth I (AddedCust c) = tt
-differs_forth I (DroppedSite place row status) = tt
-differs_forth I (DroppedCust place row lanes) = tt
-differs_forth I (FormerStatus s status) = tt
+-- what it costs to open a site that isn't there
+unfound : {A : Type 0} (p : A → Bool) (xs : List A) (d : A) → ((i : ℕ) → i < length xs → p (get_or xs i d) ≡ false) → find p xs ≡ None
+unfound p [] d h = refl
+unfound p (x ∷ xs) d h = ap (λ b. cond b (Some x) (find p xs)) (h 0 (omega arith)) ∙ unfound p xs d (λ i b. h (suc i) (omega (arith, b)))
 
+pub fixed_nowhere : (I : Instance) (s : ℕ) → ((i : ℕ) → i < length I.sites → (site_at I i).id ≢ s) → fixed_of I s ≡ 0
+fixed_nowhere I s none = ap (λ (o : Option Site). unwrap_or (option_map (λ x. x.fixed) o) 0) (unfound (λ x. x.id == s) I.sites _ (λ i b. ne_eqb (site_at I i).id s (none i b)))
+
+-- A fixed cost that is set, and set back to what it was.
+module _ (I : Instance) (rising : IsStrictlyIncreasing (site_ids I)) (s cost : ℕ) where
+  fixed_there : (k : ℕ) (d : Site) → k < length I.sites → (get_or I.sites k d).id ≡ s → fixed_of I s ≡ (get_or I.sites k d).fixed
+  fixed_there k d b same = ap (λ (o : Option Site). unwrap_or (option_map (λ x. x.fixed) o) 0) (found (λ (x : Site). x.id) I.sites d rising s k b same)
+
+  pub fixed_back : with_fixed (with_fixed I s cost) s (fixed_of I s) ≡ I
+  fixed_back = λ i.
+      record I {
+        sites = map_back (λ x. x.id == s) (λ x. record x { fixed = cost }) (λ x. record x { fixed = fixed_of I s }) I.sites (λ k d b is. (is, λ j. record (get_or I.sites k d) { fixed = fixed_there k d b (eqb-true (get_or I.sites k d).id s is) j })) i;
+      }
+
+-- an instance differs from the one to which an inverse leads back in what the edit changed
 pub differs_back : (I : Instance) (back : Inverse) → DifferBy (change_of back) I (put_back I back)
-differs_back I (FormerFixed s cost) = site_turned (put_back I (FormerFixed s cost)) I s (differs_forth I (FormerFixed s cost))
-differs_back I (FormerLane s c cost) = site_turned (put_back I (FormerLane s c cost)) I s (differs_forth I (FormerLane s c cost))
+differs_back I (FormerFixed s cost) = refl
+differs_back I (FormerLane s c cost) = refl
 differs_back I (FormerDemand c demand) = tt
-differs_back I (FormerCap s most) = site_turned (put_back I (FormerCap s most)) I s (differs_forth I (FormerCap s most))
+differs_back I (FormerCap s most) = site_turned (put_back I (FormerCap s most)) I s (site_differs I s (λ x. record x { cap = most }) (λ _. refl) (λ _. refl))
 differs_back I (FormerCount lo hi) = record { sites = refl; customers = refl; lanes = refl }
 differs_back I (AddedSite s) = tt
 differs_back I (AddedCust c) = tt
@@ -114,8 +128,23 @@ differs_back I (DroppedSite place row status) = tt
 differs_back I (DroppedCust place row lanes) = tt
 differs_back I (FormerStatus s status) = tt
 
--- a book of an instance that differs in what the change names is due
+-- and the one to which it leads back differs from the instance in what taking the edit back changes
+pub differs_forth : (I : Instance) (back : Inverse) → IsValid (put_back I back) → DifferBy (change_back I back) (put_back I back) I
+differs_forth I (FormerFixed s cost) valid = fixed_back I (subst IsStrictlyIncreasing (mapped_as_before I s (λ x. record x { fixed = cost }) (λ _. refl) (λ _. refl) (λ x. x.id) (λ _. refl) I.sites) valid.sites_named.rising) s cost
+differs_forth I (FormerLane s c cost) valid = λ k. record I { lanes = lanes_with_back I.lanes s c cost k }
+differs_forth I (FormerDemand c demand) valid = tt
+differs_forth I (FormerCap s most) valid = site_differs I s (λ x. record x { cap = most }) (λ _. refl) (λ _. refl)
+differs_forth I (FormerCount lo hi) valid = record { sites = refl; customers = refl; lanes = refl }
+differs_forth I (AddedSite s) valid = tt
+differs_forth I (AddedCust c) valid = tt
+differs_forth I (DroppedSite place row status) valid = tt
+differs_forth I (DroppedCust place row lanes) valid = tt
+differs_forth I (FormerStatus s status) valid = tt
+
+-- a book of the instance before a change is due
 pub book_due : (change : Change) (I J : Instance) (t : Tree) (b : Book) → DifferBy change I J → IsBookOf b J t → IsBookDue change I t b
+book_due (AtFixed s cost) I J t b differ is = subst (λ K. IsBookOf b K t) (sym differ) is
+book_due (AtLane s c cost) I J t b differ is = subst (λ K. IsBookOf b K t) (sym differ) is
 book_due (AtSite s) I J t b differ is = (J, differ, is)
 book_due Count I J t b differ is = (J, differ, is)
 book_due Any I J t b differ is = tt

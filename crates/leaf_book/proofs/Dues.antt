@@ -1,6 +1,6 @@
 -- What is due of the rows of a book before it follows a change.
 use Rattle.std.proofs.Common.{◌≡◌, ℕ, ◌<◌, ◌≤◌, refl, ap, sym, ◌∙◌, arith, Bool, true, false, List, [], ◌∷◌, map, length, get_or, take, None, pos}
-use Rattle.std.specs.Prelude.{◌+◌, ◌*◌, ◌-◌, ◌/◌, All, is_some, filter, replicate, slice_index, nat_lt, if◌then◌else◌}
+use Rattle.std.specs.Prelude.{◌==◌, ◌+◌, ◌*◌, ◌-◌, ◌/◌, All, is_some, filter, replicate, slice_index, nat_lt, if◌then◌else◌}
 use Rattle.std.specs.List.{list_all}
 use Rattle.std.proofs.lemmas.List.{length-map, length-take, get_or-map, get_or-take}
 use Rattle.location_terms.specs.declared.status.SiteStatus.TheVariants.{Free}
@@ -13,15 +13,17 @@ use Rattle.dual_value.specs.Zeros.{zeros}
 use Rattle.branch_tree.specs.declared.limits.TheConstants.{MAX_TREE_NUMBERS}
 use Rattle.leaf_repair.specs.CarriedTree.{by_id, carried_duals}
 use Rattle.leaf_book.specs.declared.change.Change.{Change}
-use Rattle.leaf_book.specs.declared.change.Change.TheVariants.{Site as AtSite, Count, All as Any}
+use Rattle.leaf_book.specs.declared.change.Change.TheVariants.{Fixed as AtFixed, Lane as AtLane, Site as AtSite, Count, All as Any}
 use Rattle.leaf_book.specs.Sums.{LeafSums, sums_of}
 use Rattle.leaf_book.specs.Book.{Book}
 use Rattle.leaf_book.specs.Changes.{DifferAtSite, DifferInCount}
+use Rattle.instance_store.specs.Changes.{with_fixed, with_lane_cost}
 use Rattle.leaf_book.specs.Due.{AreTouched}
 use Rattle.leaf_book.specs.BookDue.{AreRowsDue, IsBookDue}
 use Rattle.leaf_book.specs.Kept.{keeps_among, kept_leaves, carried_sums, are_too_many_leaves, root_sums, due_sums}
 use Rattle.leaf_book.specs.Rows.{Held}
 use Rattle.leaf_book.proofs.BookSums.{book_sums}
+use Rattle.leaf_book.proofs.Differing.{site_differs, site_turned, mapped_as_before}
 
 abbrev no_sums : LeafSums
 no_sums = record { q = 0; slacks = []; bound = pos 0 }
@@ -74,6 +76,24 @@ module _ (I J : Instance) (s : ℕ) (differ : DifferAtSite I J s) where
     u = λ i b other. ap (λ n. slice_index (replicate n 0) i) many;
   }
 
+-- a fixed cost changes no duals
+module _ (I : Instance) (s cost : ℕ) where
+  abbrev was : Instance
+  was = with_fixed I s cost
+
+  fixed_differs : DifferAtSite I was s
+  fixed_differs = site_turned was I s (site_differs I s (λ x. record x { fixed = cost }) (λ _. refl) (λ _. refl))
+
+  sums_refixed : (path : Path) (sites customers : List ℕ) (d : Duals) → sums_of was (path, carried_duals was sites customers d) ≡ sums_of was (path, carried_duals I sites customers d)
+  sums_refixed path sites customers d =
+      let prices = mapped_as_before I s (λ x. record x { fixed = cost }) (λ _. refl) (λ _. refl) (λ x. if is_some x.cap then by_id sites d.u 0 x.id else 0) (λ _. refl) I.sites in
+      λ k. sums_of was (path, let e : Duals = record { form = d.form; q = d.q; nu = d.nu; v = map (λ c. by_id customers d.v (pos 0) c.id) I.customers; u = prices k } in e)
+
+  zeros_refixed : sums_of was ([], zeros was 1) ≡ sums_of was ([], zeros I 1)
+  zeros_refixed =
+      let many = length-map I.sites (λ (x : Site). if x.id == s then record x { fixed = cost } else x) in
+      λ k. sums_of was ([], let e : Duals = record { form = (zeros I 1).form; q = 1; nu = pos 0; v = replicate (length I.customers) (pos 0); u = replicate (many k) 0 } in e)
+
 module _ (I J : Instance) (differ : DifferInCount I J) where
   kept_counted : (leaves : List (Path × Duals)) → kept_leaves I leaves ≡ kept_leaves J leaves
   kept_counted leaves = λ k. let keep : Path × Duals → Bool = λ l. list_all (keeps_among (map (λ x. x.id) (differ.sites k)) (map (λ c. c.id) (differ.customers k))) l.0 in filter keep leaves
@@ -122,6 +142,31 @@ module _ (I : Instance) (t : Tree) (b : Book) (rows : List Held) (used : ℕ) (w
   now = kept_leaves I (leaves_of t)
 
   pub rows_due : (change : Change) → IsBookDue change I t b → AreRowsDue change b.lo b.hi I t rows
+  rows_due (AtFixed s cost) due =
+      let J : Instance = with_fixed I s cost in
+      let differ = fixed_differs I s cost in
+      let sums = are ∙ due.leaves ∙ book_sums J t in
+      let same = kept_same I J s differ (leaves_of t) in
+      let large : are_too_many_leaves I (length now) ≡ are_too_many_leaves J (length (kept_leaves J (leaves_of t))) = too_many_same I J s differ (length now) ∙ ap (λ (ls : List (Path × Duals)). are_too_many_leaves J (length ls)) same in
+      record {
+        some = some;
+        root = λ h row. root_is J t rows used within sums (sym large ∙ h) row ∙ zeros_refixed I s cost;
+        leaves = λ h. record {
+          enough = all;
+          each = λ k l row inside.
+              leaf_is J t rows used within sums (sym large ∙ h) k l row (omega (arith, inside, ap length same))
+              ∙ ap (λ (ls : List (Path × Duals)). sums_of J ((get_or ls k l).0, carried_duals J t.sites t.customers (get_or ls k l).1)) (sym same)
+              ∙ sums_refixed I s cost (get_or now k l).0 t.sites t.customers (get_or now k l).1;
+        };
+      }
+  rows_due (AtLane s c cost) due =
+      let J : Instance = with_lane_cost I s c cost in
+      let sums = are ∙ due.leaves ∙ book_sums J t in
+      record {
+        some = some;
+        root = λ h row. root_is J t rows used within sums h row;
+        leaves = λ h. record { enough = all; each = λ k l row inside. leaf_is J t rows used within sums h k l row inside };
+      }
   rows_due (AtSite s) due =
       let J : Instance = due.0 in
       let differ = due.1 in

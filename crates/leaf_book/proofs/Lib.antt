@@ -2,6 +2,8 @@ pub mod Alike
 pub mod KeptLeaves
 pub mod LeftPaths
 pub mod Touched
+pub mod OneTerm
+pub mod Behind
 pub mod Sized
 pub mod BookSums
 pub mod Following

@@ -1,5 +1,5 @@
 -- The numbers that the code makes of a row's when one site's slack or the price on the number of sites changes.
-use Rattle.std.proofs.Common.{◌≡◌, ℕ, ◌<◌, ◌≤◌, ◌*◌, refl, sym, ap, subst, ◌∙◌, arith, List, length, get_or, pos, ℤ, ◌+ℤ◌, ◌-ℤ◌}
+use Rattle.std.proofs.Common.{◌≡◌, ℕ, ◌<◌, ◌≤◌, ◌+◌, ◌*◌, ◌^◌, refl, sym, ap, subst, ◌∙◌, arith, List, length, get_or, pos, ℤ, ◌+ℤ◌, ◌-ℤ◌}
 use mir.Syntax.{w128}
 use mir.Val.{to_z, of_z}
 use Rattle.std.specs.Prelude.{All, slice_set}
@@ -36,6 +36,10 @@ place_within I d J e s touched path sums k n is len b =
 pub read_small : (slacks : List ℤ) (k : ℕ) (old : ℤ) → All (λ x. unsigned_abs x ≤ MAX_SLACK) slacks → k < length slacks → old ≡ get_or slacks k old → unsigned_abs old ≤ MAX_SLACK
 read_small slacks k old small b is = subst (λ x. unsigned_abs x ≤ MAX_SLACK) (sym is) (small k old b)
 
+-- and, as the code takes it, the element there
+pub old_read : (slacks : List ℤ) (k : ℕ) (old : ℤ) → All (λ x. unsigned_abs x ≤ MAX_SLACK) slacks → k < length slacks → old ≡ get_or slacks k old → bits old ≡ get_or slacks k (pos 0)
+old_read slacks k old small b is = kept old MAX_SLACK (read_small slacks k old small b is) (omega arith) ∙ is ∙ get_or_default slacks k old (pos 0) b
+
 pub bits_small : (x : ℤ) → unsigned_abs x ≤ MAX_SLACK → unsigned_abs (bits x) ≤ MAX_SLACK
 bits_small x small = subst (λ y. unsigned_abs y ≤ MAX_SLACK) (sym (kept x MAX_SLACK small (omega arith))) small
 
@@ -69,3 +73,7 @@ module _ (I J : Instance) (differ : DifferInCount I J) (path : Path) (d : Duals)
 
       pub recounted_small : unsigned_abs (bits (bits bound +ℤ bits (bits former -ℤ bits own))) ≤ MAX_BOUND
       recounted_small = subst (λ x. unsigned_abs x ≤ MAX_BOUND) (sym (ap (λ (r : LeafSums). r.bound) row_recounted)) (bound_small I path d valid fit)
+
+-- the slack that the code makes of the one before
+pub slack_moved : (old x y : ℤ) (m n : ℕ) → unsigned_abs old ≤ MAX_SLACK → unsigned_abs x ≤ m → unsigned_abs y ≤ n → MAX_SLACK + (m + n) < 2 ^ 127 → bits (bits old +ℤ bits (bits x -ℤ bits y)) ≡ old +ℤ (x -ℤ y)
+slack_moved old x y m n = moved_kept old x y MAX_SLACK m n

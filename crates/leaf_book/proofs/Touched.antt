@@ -78,10 +78,10 @@ module _ (I : Instance) (d : Duals) (J : Instance) (e : Duals) (s : ℕ) (touche
   pub many : length I.sites ≡ length J.sites
   many = sym (length-site_ids I) ∙ ap length touched.instances.ids ∙ length-site_ids J
 
-  same_id : (i : ℕ) → i < length I.sites → (site_at I i).id ≡ (site_at J i).id
+  pub same_id : (i : ℕ) → i < length I.sites → (site_at I i).id ≡ (site_at J i).id
   same_id i b = sym (slice_index-site_ids I i b) ∙ ap (λ (ids : List ℕ). get_or ids i 0) touched.instances.ids ∙ slice_index-site_ids J i (omega (arith, b, many))
 
-  settled : (i : ℕ) → i < length I.sites → IsSettledAlike I path J path i
+  pub settled : (i : ℕ) → i < length I.sites → IsSettledAlike I path J path i
   settled i b = record {
     status = touched.instances.statuses i b;
     closes = ap (λ x. list_any (closes_site x) path) (same_id i b);

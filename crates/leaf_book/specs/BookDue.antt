@@ -7,8 +7,9 @@ use Rattle.location_terms.specs.Bound.{Duals}
 use Rattle.location_terms.specs.Tree.{Tree, leaves_of}
 use Rattle.dual_value.specs.Zeros.{zeros}
 use Rattle.leaf_repair.specs.CarriedTree.{carried_duals}
+use Rattle.instance_store.specs.Changes.{with_fixed, with_lane_cost}
 use Rattle.leaf_book.specs.declared.change.Change.{Change}
-use Rattle.leaf_book.specs.declared.change.Change.TheVariants.{Site, Count, All}
+use Rattle.leaf_book.specs.declared.change.Change.TheVariants.{Fixed, Lane, Site, Count, All}
 use Rattle.leaf_book.specs.Book.{Book, IsBookOf}
 use Rattle.leaf_book.specs.Changes.{DifferAtSite, DifferInCount}
 use Rattle.leaf_book.specs.Due.{IsDue}
@@ -30,8 +31,10 @@ pub record AreRowsDue (change : Change) (lo hi : ℕ) (I : Instance) (t : Tree) 
   pub root : are_too_many_leaves I (length (kept_leaves I (leaves_of t))) ≡ true → (row : Held) → IsDue change lo hi I [] (zeros I 1) (slice_index_or rows 0 row)
   pub leaves : are_too_many_leaves I (length (kept_leaves I (leaves_of t))) ≡ false → AreDue change lo hi I t (kept_leaves I (leaves_of t)) rows
 
--- the same of the book: it is that of an instance that differs in the part alone
+-- the same of the book: it is that of the instance before the change, which differs in the part alone
 abbrev pub IsBookDue : Change → Instance → Tree → Book → Type 0
+IsBookDue (Fixed s cost) I t b = IsBookOf b (with_fixed I s cost) t
+IsBookDue (Lane s c cost) I t b = IsBookOf b (with_lane_cost I s c cost) t
 IsBookDue (Site s) I t b = (J : Instance) × DifferAtSite I J s × IsBookOf b J t
 IsBookDue Count I t b = (J : Instance) × DifferInCount I J × IsBookOf b J t
 IsBookDue All I t b = Unit {0}

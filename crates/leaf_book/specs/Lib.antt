@@ -6,6 +6,7 @@ pub mod Rows
 pub mod Counts
 pub mod Kept
 pub mod Due
+pub mod OneSite
 pub mod BookDue
 pub mod Stored
 pub mod Course

@@ -8,7 +8,7 @@ ghost use Rattle.leaf_repair.specs.CarriedTree.{carried_tree};
 ghost use Rattle.leaf_repair.specs.Held.{TellsWhichClose};
 ghost use Rattle.leaf_book.specs.Book.{AreLeafPlaces, IsBookOf, IsByPrices, HasRoomFor, HasNoLessRoom, sums_at};
 ghost use Rattle.leaf_book.specs.BookDue.{IsBookDue};
-ghost use Rattle.leaf_book.specs.Changes.{change_of};
+ghost use Rattle.leaf_book.specs.Changes.{change_back};
 
 use crate::Change;
 use crate::ids::{place_custs, place_sites};
@@ -184,14 +184,15 @@ impl LeafBook {
         self.follow(tree, inst, Change::of(back));
     }
 
-    /// Leads the book on to the instance, after an edit was taken back: `change` is what its inverse
-    /// changes. Room has to be made before. It takes no memory.
+    /// Leads the book on to the instance, after an edit was taken back: `change` is what that changed, as
+    /// `Change::of_undo` told it before. Room has to be made before, too. It takes no memory.
     pub fn undone(&mut self, tree: &Tree, inst: &Instance, change: Change)
-        requires book { (I : Meaning) × (back : Taking) × IsBookOf self.old I tree.now × (change_of back ≡ change) × (put_back I back ≡ inst.now) }
+        requires book { (I : Meaning) × (back : Taking) × IsBookOf self.old I tree.now × (change_back I back ≡ change) × (put_back I back ≡ inst.now) }
         requires room { HasRoomFor self.old inst.now }
         ensures book { IsBookOf self.new inst.now tree.now }
         ensures room { HasNoLessRoom self.old self.new }
     {
+        let _valid = inst.sites();
         self.follow(tree, inst, change);
     }
 

@@ -6,6 +6,7 @@ mod book;
 mod change;
 mod ids;
 mod kept;
+mod one_site;
 mod places;
 mod row;
 mod row_sums;

@@ -3,13 +3,15 @@ ghost use Rattle.std.specs.Prelude.{◌≡◌, ◌≤◌, ◌<◌, IfOk, OnOk, l
 ghost use Rattle.location_terms.specs.Fit.{DualsFit};
 ghost use Rattle.location_terms.specs.declared.limits.TheConstants.{MAX_SCALE, MAX_SITES};
 ghost use Rattle.dual_value.specs.declared.bounds.TheConstants.{MAX_BOUND};
-ghost use Rattle.leaf_book.specs.declared.change.Change.TheVariants.{Site, Count, All};
+ghost use Rattle.leaf_book.specs.declared.change.Change.TheVariants.{Count};
 ghost use Rattle.leaf_book.specs.Sums.{sums_of};
 ghost use Rattle.leaf_book.specs.Due.{IsDue};
+ghost use Rattle.leaf_book.specs.OneSite.{IsOfSite};
 
 use crate::Change;
+use crate::one_site::slack_behind;
 use crate::row_sums::{bound_from, fill_slacks, price_of, share};
-use dual_value::{Decision, DualsByPlace, slack};
+use dual_value::{Decision, DualsByPlace};
 use instance_store::{Instance, NoMemory, SiteId};
 use std::alloc::Global;
 use std::marker::Model;
@@ -104,7 +106,9 @@ impl Row {
         ensures room { self.new.room ≡ self.old.room }
     {
         match change {
-            Change::Site(site) => self.touch(inst, path, duals, site),
+            Change::Fixed { site, .. } | Change::Lane { site, .. } | Change::Site(site) => {
+                self.touch(inst, path, duals, change, site)
+            }
             Change::Count => self.recount(inst, path, duals, count),
             Change::All => self.fill(inst, path, duals),
         }
@@ -122,24 +126,26 @@ impl Row {
         self.q = duals.q();
     }
 
-    // The slack of one site anew, and the bound by the difference.
+    // The slack of one site behind a change of it, and the bound by the difference.
     fn touch<D: DualsByPlace>(
         &mut self,
         inst: &Instance,
         path: &[Decision],
         duals: &D,
+        change: Change,
         site: SiteId,
     )
         requires fit { DualsFit inst.now (D.numbers duals.now) }
-        requires due { IsDue (Site site) 0 0 inst.now path.now (D.numbers duals.now) self.old }
+        requires of_site { IsOfSite change site }
+        requires due { IsDue change 0 0 inst.now path.now (D.numbers duals.now) self.old }
         ensures sums { self.new.sums ≡ sums_of inst.now (path.now, D.numbers duals.now) }
         ensures room { self.new.room ≡ self.old.room }
     {
         let _valid = inst.sites();
         match inst.site_at(site) {
             Some(place) => {
-                let new = slack(inst, path, duals, place);
                 let old = self.slacks[place];
+                let new = slack_behind(inst, path, duals, place, change, old);
                 self.slacks[place] = new;
                 self.bound += share(inst, path, place, new) - share(inst, path, place, old);
             }

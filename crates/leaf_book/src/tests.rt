@@ -125,7 +125,7 @@ fn take_back(
     ensures book { OnOk result (IsBookOf book.new inst.new tree.now) }
 {
     book.make_room_back(tree, inst, &back)?;
-    let change = Change::of(&back);
+    let change = Change::of_undo(inst, &back);
     match undo(inst, back) {
         Ok(()) => {
             book.undone(tree, inst, change);
@@ -166,14 +166,14 @@ fn set_fixed(cost: u64) -> Edit
     }
 }
 
-fn set_lane(cost: u64) -> Edit
-    requires { cost ≤ MAX_AMOUNT }
+fn set_lane(cost: Option<u64>) -> Edit
+    requires { IsSmall cost }
     ensures { HasAmounts result }
 {
     Edit::SetLane {
         site: SiteId::new(1),
         cust: CustId::new(2),
-        cost: Some(cost),
+        cost,
     }
 }
 
@@ -239,8 +239,8 @@ fn is_whole(book: &LeafBook) -> bool {
         && has(book, 2, &[-7_000, 8_000], 29_000)
 }
 
-// Whether three leaves follow the numbers of sites, a lane, a status that tears two paths and a site that
-// goes, and each of them back.
+// Whether three leaves follow the numbers of sites, a lane that gets cheaper or goes, a status that tears two
+// paths and a site that goes, and each of them back.
 fn three_leaves_follow(
     alloc: Global,
     inst: &mut Instance,
@@ -252,8 +252,10 @@ fn three_leaves_follow(
     let whole = is_whole(book);
     let count = Edit::SetCount { lo: 1, hi: 1 };
     let counted = shows(alloc, inst, tree, book, count, 2, &[-7_000, 8_000], 30_000)?;
-    let lane = set_lane(500_000);
+    let lane = set_lane(Some(500_000));
     let cheaper = shows(alloc, inst, tree, book, lane, 2, &[-8_500, 8_000], 27_500)?;
+    let none = set_lane(None);
+    let cut_off = shows(alloc, inst, tree, book, none, 2, &[1_000, 8_000], 37_000)?;
     let closed = close_second();
     let torn = shows(
         alloc,
@@ -267,7 +269,7 @@ fn three_leaves_follow(
     )?;
     let cut = shows(alloc, inst, tree, book, drop_second(), 0, &[11_000], -2_000)?;
     let gone = !shows(alloc, inst, tree, book, drop_second(), 1, &[11_000], -2_000)?;
-    Ok(whole && counted && cheaper && torn && cut && gone && is_whole(book))
+    Ok(whole && counted && cheaper && cut_off && torn && cut && gone && is_whole(book))
 }
 
 // Whether a leaf with a price of 2 for the capacity follows that, and a capacity that goes.

@@ -14,7 +14,7 @@ use Rattle.instance_edits.specs.Undo.{put_back}
 use Rattle.edit_history.specs.History.{HeldEdit, History, IsBeforeLast, LeadsOn}
 use Rattle.leaf_book.specs.declared.change.Change.{Change}
 use Rattle.leaf_book.specs.Book.{Book, IsBookOf, IsByPrices, HasRoomFor}
-use Rattle.leaf_book.specs.Changes.{change_of}
+use Rattle.leaf_book.specs.Changes.{change_back}
 use Rattle.leaf_repair.specs.CarriedTree.{carried_tree}
 use Rattle.whatif_session.specs.State.{Solved, last_of, last_solves, found_in}
 use Rattle.whatif_session.specs.Kept.{IsAmong, AreAmong, AreSolves}
@@ -169,7 +169,7 @@ leads_left h k held back before is base leads =
     same_ok (put_back h.instance back) k.instance (edits_applied h.base (map (λ held. held.edit) k.edits)) (before k.edits held is) (subst (λ B. edits_applied B (map (λ held. held.edit) k.edits) ≡ Ok k.instance) base leads)
 
 -- the book is behind by the undo
-pub behind : (book : Option Book) (I J : Instance) (back : Inverse) (change : Change) (former now : Option Tree) → (now ≡ None) ⊎ (now ≡ former) → change_of back ≡ change → put_back I back ≡ J → KeepsBook book I former → IfSome now (IsBookBehind book J change)
+pub behind : (book : Option Book) (I J : Instance) (back : Inverse) (change : Change) (former now : Option Tree) → (now ≡ None) ⊎ (now ≡ former) → change_back I back ≡ change → put_back I back ≡ J → KeepsBook book I former → IfSome now (IsBookBehind book J change)
 behind book I J back change former None or is leads keeps = tt
 behind book I J back change former (Some t) (inl none) is leads keeps = absurd (search rules)
 behind book I J back change former (Some t) (inr same) is leads keeps = record { I = I; back = back; is_change = is; leads = leads; book_is = subst (KeepsBook book I) (sym same) keeps }
@@ -181,7 +181,7 @@ stays_by now former a b now_is former_is (inr same) = inr (now_is ∙ same ∙ s
 
 -- where the book is behind by an undo
 pub behind_by : (o : Option Book) (b : Book) (J : Instance) (change : Change) (tree : Option Tree) (t : Tree) → o ≡ Some b → tree ≡ Some t → IfSome tree (IsBookBehind o J change)
-    → (I : Instance) × (back : Inverse) × IsBookOf b I t × (change_of back ≡ change) × (put_back I back ≡ J)
+    → (I : Instance) × (back : Inverse) × IsBookOf b I t × (change_back I back ≡ change) × (put_back I back ≡ J)
 behind_by o b J change tree t is tree_is at =
     let here : IsBookBehind o J change t = subst (λ x. IfSome x (IsBookBehind o J change)) tree_is at in
     (here.I, here.back, subst (λ x. KeepsBook x here.I (Some t)) is here.book_is, here.is_change, here.leads)

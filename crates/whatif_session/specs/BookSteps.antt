@@ -8,7 +8,7 @@ use Rattle.instance_edits.specs.Undo.{put_back}
 use Rattle.edit_history.specs.History.{HeldEdit, History, IsBeforeLast}
 use Rattle.leaf_book.specs.declared.change.Change.{Change}
 use Rattle.leaf_book.specs.Book.{Book, HasRoomFor}
-use Rattle.leaf_book.specs.Changes.{change_of}
+use Rattle.leaf_book.specs.Changes.{change_back}
 use Rattle.whatif_session.specs.State.{Solved, last_of}
 use Rattle.whatif_session.specs.Booked.{KeepsBook, last_tree_in}
 
@@ -40,13 +40,13 @@ pub record IsBookBefore (book : Option Book) (h : History) (tree : Option Tree) 
 pub record IsReadyBack (book : Option Book) (h : History) (change : Change) : Type 0 where
   pub back : Inverse
   pub before : IsBeforeLast h (put_back h.instance back)
-  pub is_change : change_of back ≡ change
+  pub is_change : change_back h.instance back ≡ change
   pub room : IfSome book (λ b. HasRoomFor b (put_back h.instance back))
 
 -- the book is that of the tree on an instance from which an edit's being taken back, which changes this, leads to the one that is now
 pub record IsBookBehind (book : Option Book) (J : Instance) (change : Change) (t : Tree) : Type 0 where
   pub I : Instance
   pub back : Inverse
-  pub is_change : change_of back ≡ change
+  pub is_change : change_back I back ≡ change
   pub leads : put_back I back ≡ J
   pub book_is : KeepsBook book I (Some t)

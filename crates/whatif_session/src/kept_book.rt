@@ -87,8 +87,9 @@ impl KeptBook {
         let Some(back) = history.last_back() else {
             unreachable!();
         };
-        self.widen_back(tree, history.instance(), back)?;
-        Ok(Change::of(back))
+        let inst = history.instance();
+        self.widen_back(tree, inst, back)?;
+        Ok(Change::of_undo(inst, back))
     }
 
     fn widen_back(

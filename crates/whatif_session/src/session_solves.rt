@@ -1,9 +1,10 @@
 //! The solves of a session, and the answer that stands.
-ghost use Rattle.std.specs.Prelude.{◌≡◌, ℕ, ◌-◌, ◌^◌, ◌<◌, ◌↔◌, None, Some, IfOk, IfErr, IfSome, IsNone, OnErr, option_map};
+ghost use Rattle.std.specs.Prelude.{◌≡◌, ℕ, ◌-◌, ◌^◌, ◌<◌, ◌≤◌, ◌↔◌, None, Some, IfOk, IfErr, IfSome, IsNone, OnOk, OnErr, option_map};
 ghost use Rattle.std.specs.Option.{option_copied};
 ghost use Rattle.certificate_lines.specs.Length.{DecidesOnce};
 ghost use Rattle.certificate_text.specs.Cert.{certificate_lent};
 ghost use Rattle.tree_search.specs.Answer.{IsWithin, claim_in, tree_in};
+ghost use Rattle.tree_search.specs.Budget.{max_budget};
 ghost use Rattle.whatif_session.specs.State.{last_serial, present_solve, standing_answer};
 ghost use Rattle.whatif_session.specs.Booked.{KeepsBook};
 ghost use Rattle.whatif_session.specs.Standing.{IsStanding};
@@ -28,6 +29,7 @@ impl Session {
     pub fn solve(&mut self, budget: u32) -> Result<Outcome, SessionFault>
         requires { last_serial self.old.state < 2 ^ 64 - 1 }
         ensures solved { IfOk result (λ outcome. IsOutcome self.old budget outcome self.new) }
+        ensures within { OnOk result (budget ≤ max_budget self.old.instance) }
         ensures kept { OnErr result (self.new ≡ self.old) }
         ensures cause { IfErr result (IsSolveCause self.old budget) }
     {
