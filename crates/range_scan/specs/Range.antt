@@ -1,5 +1,5 @@
 -- How far one cost may move while a plan stays proved optimal by the tree that proves it now.
-use Rattle.std.specs.Prelude.{ℕ, ◌≤◌, Some, IsNone, Contains}
+use Rattle.std.specs.Prelude.{ℕ, ◌≤◌, Some, IsNone, IsSome, Contains}
 use Rattle.location_terms.specs.declared.claim.Claim.TheVariants.{Optimal}
 use Rattle.location_terms.specs.declared.limits.TheConstants.{MAX_AMOUNT}
 use Rattle.location_terms.specs.Instance.{Instance, site_ids, customer_ids, lane}
@@ -30,16 +30,16 @@ pub record IsCostRange (priced : ℕ → Instance) (present : ℕ) (t : Tree) (P
   pub range : IsProvedRange priced present t P r
   pub greatest : (other : Range) → IsProvedRange priced present t P other → (r.least ≤ other.least) × (other.greatest ≤ r.greatest)
 
--- why a range of a fixed cost is refused
+-- why a range of a fixed cost is refused; memory may run out only where there is one
 abbrev pub IsFixedRefusal : Instance → ℕ → RangeRefusal → Type 0
 IsFixedRefusal I s NoSite = Contains (site_ids I) s → ⊥
 IsFixedRefusal I s NoCustomer = ⊥
 IsFixedRefusal I s NoLane = ⊥
-IsFixedRefusal I s NoMemory = Unit {0}
+IsFixedRefusal I s NoMemory = Contains (site_ids I) s
 
--- why a range of a lane's cost is refused: the first of these that isn't in the instance
+-- why a range of a lane's cost is refused: the first of these that isn't in the instance; memory may run out only where there is one
 abbrev pub IsLaneRefusal : Instance → ℕ → ℕ → RangeRefusal → Type 0
 IsLaneRefusal I s c NoSite = Contains (site_ids I) s → ⊥
 IsLaneRefusal I s c NoCustomer = Contains (site_ids I) s × (Contains (customer_ids I) c → ⊥)
 IsLaneRefusal I s c NoLane = Contains (site_ids I) s × Contains (customer_ids I) c × IsNone (lane I s c)
-IsLaneRefusal I s c NoMemory = Unit {0}
+IsLaneRefusal I s c NoMemory = IsSome (lane I s c)
