@@ -37,11 +37,13 @@ use Rattle.dualoc_cli.specs.declared.reply.Reply.{Reply}
 use Rattle.dualoc_cli.specs.declared.reply.Reply.TheVariants.{Reached}
 use Rattle.dualoc_cli.specs.declared.reply.Outcome.{Outcome}
 use Rattle.dualoc_cli.specs.declared.reply.Outcome.TheVariants.{Optimum, Ascent, Misspelt, Judged}
-use Rattle.dualoc_cli.specs.Command.{Job, OnFile, SolveShort, SolveLong, ShowDuals, Check, Convert, Session, command_of}
+use Rattle.dualoc_cli.specs.Command.{Job, OnFile, SolveShort, SolveLong, ShowDuals, Check, Convert, Session, ShowRange, Center, Curve, command_of}
 use Rattle.dualoc_cli.specs.Run.{Run, IsTooLong, HasFileFault, HasTask, FailsToRead, ChangesNoFile}
 use Rattle.dualoc_cli.specs.Duals.{IsRaised}
-use Rattle.dualoc_cli.specs.Check.{CertificateFails, IsAnswered, IsConfirmed}
-use Rattle.dualoc_cli.specs.Due.{IsOutcomeOf, IsCause, KeepsFiles}
+use Rattle.dualoc_cli.specs.declared.reply.Port.TheVariants as port
+use Rattle.dualoc_cli.specs.declared.reply.Refusal.TheVariants.{LongCertificate}
+use Rattle.dualoc_cli.specs.Check.{IsAnswered, IsConfirmed}
+use Rattle.dualoc_cli.specs.Due.{PortFails, IsRefused, IsOutcomeOf, IsCause, KeepsFiles}
 use Rattle.dualoc_cli.specs.Step.{Covers, CanBePrinted, IsPrintable}
 use Rattle.dualoc_cli.proofs.Commands.{suited}
 
@@ -86,6 +88,9 @@ keeps r ShowDuals same = same
 keeps r (Check certificate) same = same
 keeps r (Convert new) same = inl same
 keeps r Session same = inl same
+keeps r (ShowRange certificate at) same = same
+keeps r (Center into new given count) same = inl same
+keeps r (Curve first last given) same = same
 
 pub changes_none : (r : Run) (old new : ShelfState) → Covers r old new → new.files ≡ old.files → ChangesNoFile r
 changes_none r old new part same = sym part.left ∙ same ∙ part.files
@@ -199,21 +204,21 @@ module _ (r : Run) (old new : ShelfState) (name : List ℕ) (I : Instance) (task
 
   pub judged : (verdict : Verdict) → Seen (Ok verdict) → ((claim : Claim) → ◌≡◌ {A = Answer} (Ok verdict) (Ok (Yes claim)) → Shown claim) → IsOutcomeOf r (Judged verdict)
   judged (Yes claim) seen shows = confirmed claim (shows claim refl)
-  judged (No line why) seen shows = answered (Ok (No line why)) (read_answer (No line why)) seen
+  judged (No line why) seen shows = inl (answered (Ok (No line why)) (read_answer (No line why)) seen)
 
   text_unread : (kind : CertKind) (line : ℕ) → IsUnread (Err (Text kind line)) → ⊥
   text_unread kind line (inl e) = cc
   text_unread kind line (inr e) = cc
 
   pub misspelt : (kind : CertKind) (line : ℕ) → Seen (Err (Text kind line)) → IsOutcomeOf r (Misspelt kind line)
-  misspelt kind line seen = answered (Err (Text kind line)) (text_unread kind line) seen
+  misspelt kind line seen = inl (answered (Err (Text kind line)) (text_unread kind line) seen)
 
   long_unread : IsUnread (Err TooLong) → ⊥
   long_unread (inl e) = cc
   long_unread (inr e) = cc
 
-  pub long : Seen (Err TooLong) → IsAnswered r (Err TooLong)
-  long seen = answered (Err TooLong) long_unread seen
+  pub long : Seen (Err TooLong) → IsRefused r LongCertificate
+  long seen = inl (answered (Err TooLong) long_unread seen)
 
-  pub unread : Rose (old.reads name) (new.reads name) → CertificateFails r
-  unread rose = record { instance = I; name = name; task = task; fails = fails_in r old new name part rose }
+  pub unread : Rose (old.reads name) (new.reads name) → PortFails r port.Certificate
+  unread rose = inl (record { instance = I; name = name; task = task; fails = fails_in r old new name part rose })

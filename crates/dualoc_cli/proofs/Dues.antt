@@ -2,9 +2,12 @@
 use Rattle.std.proofs.Common.{◌≡◌, ◌⊎◌, ℕ, ◌+◌, ◌^◌, ◌<◌, ◌≤◌, List, ◌++◌, length, Option, None, Some, Result, Ok, Err, sym, refl, ap, ◌∙◌, subst, inl, inr, arith}
 use Rattle.std.specs.Prelude.{if◌then◌else◌, nat_lt, Bool, true, false, MatchBool}
 use Rattle.std.specs.FinMap.{get}
-use Rattle.std.proofs.lemmas.Bool.{lt-ltb, cond-true, cond-false, false_from_ne_true, ltb-true}
+use Rattle.std.proofs.lemmas.Bool.{lt-ltb, cond-true, cond-false, false_from_ne_true, ltb-true, cases_lt}
 use Rattle.shelf_port.specs.Files.{MayHold}
-use Rattle.location_terms.specs.Instance.{Instance}
+use Rattle.location_terms.specs.Instance.{Instance, IsValid}
+use Rattle.range_scan.specs.declared.range.Range.{Range}
+use Rattle.range_scan.specs.declared.refusal.RangeRefusal.{RangeRefusal}
+use Rattle.range_scan.specs.declared.refusal.RangeRefusal.TheVariants as lacking
 use Rattle.fixed_cost.specs.declared.fault.FileFault.{FileFault}
 use Rattle.set_walk.specs.declared.TheConstants.{MAX_WALK_SITES}
 use Rattle.certificate_lines.specs.declared.limits.TheConstants.{MAX_CERTIFICATE_BYTES}
@@ -28,25 +31,35 @@ use Rattle.certificate_lines.specs.Text.{certificate_text}
 use Rattle.fixed_cost.specs.declared.limits.TheConstants.{MAX_INSTANCE_BYTES}
 use Rattle.dualoc_cli.specs.declared.status.Status.{Status}
 use Rattle.dualoc_cli.specs.declared.status.Status.TheVariants.{Done, Infeasible, Bracket, CheckNo, Usage, BadInput, ReadFault, WriteFault, TooLarge, NoMemory}
+use Rattle.dualoc_cli.specs.declared.status.Status.TheVariants as statuses
 use Rattle.instance_forms.specs.Forms.{InstanceFile, meaning_in}
 use Rattle.dualoc_cli.specs.declared.reply.Reply.{Reply}
 use Rattle.dualoc_cli.specs.declared.reply.Reply.TheVariants.{NoCommand, Failed, Refused, Reached}
 use Rattle.dualoc_cli.specs.declared.reply.Port.{Port}
 use Rattle.dualoc_cli.specs.declared.reply.Port.TheVariants as port
 use Rattle.dualoc_cli.specs.declared.reply.Refusal.{Refusal}
-use Rattle.dualoc_cli.specs.declared.reply.Refusal.TheVariants.{LongInstance, Faulty, ManySites, LargeBudget, LongCertificate, LongLine, LongInput}
+use Rattle.dualoc_cli.specs.declared.reply.Refusal.TheVariants.{LongInstance, Faulty, ManySites, LargeBudget, LongCertificate, LongLine, LongInput, NoSite, NoCustomer, NoLane}
 use Rattle.dualoc_cli.specs.declared.reply.Outcome.{Outcome}
-use Rattle.dualoc_cli.specs.declared.reply.Outcome.TheVariants.{Optimum, Searched, Tried, Ascent, Misspelt, Judged, Converted, Ended}
-use Rattle.dualoc_cli.specs.Command.{Command, OnFile, OnTrial, ResultFiles, Job, SolveShort, SolveLong, ShowDuals, Check, Convert, Session, command_of}
+use Rattle.dualoc_cli.specs.declared.reply.Outcome.TheVariants.{Optimum, Searched, Tried, Ascent, Misspelt, Judged, Converted, Ended, Ranged, NoOptimalClaim, Centered, Drawn}
+use Rattle.dualoc_cli.specs.Command.{Command, OnFile, OnTrial, ResultFiles, Job, SolveShort, SolveLong, ShowDuals, Check, Convert, Session, ShowRange, Center, Curve, command_of}
+use Rattle.dualoc_cli.specs.declared.reply.CenterEnd.{CenterEnd}
+use Rattle.center_solve.specs.declared.answer.CenterAnswer.{CenterAnswer}
+use Rattle.center_solve.specs.declared.answer.CenterAnswer.TheVariants as centers
+use Rattle.center_solve.specs.Center.{HasEndedSearch}
 use Rattle.dualoc_cli.specs.Status.{when_cut}
-use Rattle.dualoc_cli.specs.Reply.{failed_status, refused_status, outcome_status, status_of, status_of_claim, text_of}
+use Rattle.dualoc_cli.specs.Reply.{failed_status, refused_status, outcome_status, status_of, status_of_claim, center_status, text_of}
 use Rattle.dualoc_cli.specs.Run.{Run, AsksFor, HasTask, HasFileFault}
 use Rattle.dualoc_cli.specs.Solve.{HasManySites}
-use Rattle.dualoc_cli.specs.Search.{HasLargeBudget, IsSearched, IsEnd, EndsSearch}
+use Rattle.dualoc_cli.specs.Search.{budget_given, HasLargeBudget, IsSearched, IsEnd, EndsSearch}
 use Rattle.dualoc_cli.specs.Check.{IsAnswered, DeservesYes, IsChecked}
 use Rattle.dualoc_cli.specs.Session.{StopsAt, stop_status}
+use Rattle.dualoc_cli.specs.declared.words.CostAt.{CostAt}
+use Rattle.dualoc_cli.specs.Range.{HasCost, AsksRange, ProofFails, HasLongProof, IsProofAnswered, HasProof, optimum_of, ClaimsOptimum, HasNoOptimum, HasNoCost, IsRanged, IsRangeDue}
+use Rattle.dualoc_cli.proofs.Ranging.{RangeStatus, RangeDue, status_in, range_status_once, some_range_status, ranged_status, lacking_status, no_optimum_status, lacks_site, lacks_customer, lacks_lane, range_due_once}
 use Rattle.dualoc_cli.specs.Trial.{HasTrial, HasPlan, IsTrialAnswer, EndsTrial}
-use Rattle.dualoc_cli.specs.Due.{PortFails, IsRefused, IsOutcomeOf, IsCause, IsPrinted, EndsWithoutMemory, EndsInRow, Ends, IsRefusalStatus, IsResult, IsSettledAtStart, IsTold, IsHindered, MemoryRanOut, PortFailed, OutputFailed, RowRefused, EndsAs, EndsAsInput, IsComplete}
+use Rattle.dualoc_cli.specs.Center.{counted_by, center_end, IsCentered}
+use Rattle.dualoc_cli.specs.Curve.{IsCurveRow}
+use Rattle.dualoc_cli.specs.Due.{PortFails, IsRefused, IsOutcomeOf, IsCause, IsPrinted, EndsWithoutMemory, EndsInRow, EndsInCurve, Ends, IsRefusalStatus, IsResult, IsSettledAtStart, IsTold, IsHindered, MemoryRanOut, PortFailed, OutputFailed, RowRefused, EndsAs, EndsAsInput, IsComplete}
 use Rattle.whatif_session.specs.Input.{session_limits, input_lines, is_ended_by_quit}
 use Rattle.whatif_session.specs.Run.{Stop, AtEnd, AtLongLine, AtLongInput, IsDueStop, MayGive, stop_at}
 use Rattle.tree_search.specs.Budget.{max_budget, budget_in}
@@ -64,6 +77,7 @@ not_result ReadFault h = h
 not_result WriteFault h = h
 not_result TooLarge h = h
 not_result NoMemory h = h
+not_result statuses.Refused h = h
 
 -- a refusal whose text was cut is a refusal
 pub uncut_refusal : (due : Status) → IsRefusalStatus (when_cut due) → IsRefusalStatus due
@@ -77,18 +91,14 @@ uncut_refusal ReadFault h = tt
 uncut_refusal WriteFault h = absurd h
 uncut_refusal TooLarge h = tt
 uncut_refusal NoMemory h = absurd h
-
--- the status of an answer to a certificate
-status_in : Answer → Status
-status_in (Ok (Yes claim)) = Done
-status_in (Ok (No line why)) = CheckNo
-status_in (Err (Text kind line)) = CheckNo
-status_in (Err TooLong) = TooLarge
-status_in (Err ReadFailed) = ReadFault
-status_in (Err unread.NoMemory) = NoMemory
+uncut_refusal statuses.Refused h = absurd h
 
 not_above : (a b : ℕ) → a ≤ b → nat_lt b a ≡ false
 not_above a b h = false_from_ne_true (nat_lt b a) (λ e. let above : b < a = ltb-true b a e in omega arith)
+
+-- a number is below another one that it isn't at least
+below_unless : (a b : ℕ) → (a ≤ b → ⊥) → b < a
+below_unless a b h = elim (cases_lt b a) [ inl below ↦ below | inr above ↦ absurd (h above) ]
 
 -- what is due: a status, that a search with a budget ends, that a trial does, or that a session ends as its input says
 data Due : Type 0 where
@@ -139,33 +149,51 @@ module _ (r : Run) where
   task_words : {S : Type 0} (job : Job) (I : Instance) → HasTask r job I → S ⊎ ((command : Command) × (command_of r.words ≡ Some command))
   task_words job I task = inr (OnFile task.file job, task.asked.words_are)
 
+  asked_words : {S : Type 0} (I : Instance) (at : CostAt) (bytes : List ℕ) → AsksRange r I at bytes → S ⊎ ((command : Command) × (command_of r.words ≡ Some command))
+  asked_words I at bytes asked = task_words (ShowRange asked.name at) I asked.task
+
+  proof_words : {S : Type 0} (I : Instance) (at : CostAt) (cert : Certificate) → HasProof r I at cert → S ⊎ ((command : Command) × (command_of r.words ≡ Some command))
+  proof_words I at cert proof = asked_words I at (certificate_text I cert) proof.asked
+
   -- a reply is to a command, but for the one to words that are none
   port_words : {S : Type 0} (at : Port) → PortFails r at → S ⊎ ((command : Command) × (command_of r.words ≡ Some command))
   port_words port.Instance cause = inr (OnFile cause.file cause.job, cause.words_are)
-  port_words port.Certificate cause = task_words (Check cause.name) cause.instance cause.task
+  port_words port.Certificate (inl cause) = task_words (Check cause.name) cause.instance cause.task
+  port_words port.Certificate (inr cause) = task_words (ShowRange cause.name cause.at) cause.instance cause.task
   port_words port.Result cause = task_words (SolveLong cause.into cause.result.asked.given) cause.instance cause.result.asked.task
   port_words port.New cause = task_words (Convert cause.new) cause.begun.instance cause.begun.task
   port_words port.Input cause = task_words Session cause.1.instance cause.1.task
+  port_words port.Center cause = let asked = cause.result.asked in task_words (Center cause.into cause.new asked.given asked.count) asked.listed asked.task
 
   refused_words : {S : Type 0} (refusal : Refusal) → IsRefused r refusal → S ⊎ ((command : Command) × (command_of r.words ≡ Some command))
   refused_words LongInstance cause = inr (OnFile cause.file cause.job, cause.asked.words_are)
   refused_words (Faulty fault) cause = inr (OnFile cause.file cause.job, cause.asked.words_are)
   refused_words ManySites cause = task_words SolveShort cause.instance cause.task
-  refused_words LargeBudget cause = task_words (SolveLong cause.into (Some cause.budget)) cause.instance cause.task
-  refused_words LongCertificate cause = task_words (Check cause.name) cause.instance cause.task
+  refused_words LargeBudget cause = task_words cause.job cause.instance cause.task
+  refused_words LongCertificate (inl cause) = task_words (Check cause.name) cause.instance cause.task
+  refused_words LongCertificate (inr cause) = asked_words cause.instance cause.at cause.bytes cause.asked
   refused_words LongLine cause = task_words Session cause.1.instance cause.1.task
   refused_words LongInput cause = task_words Session cause.1.instance cause.1.task
+  refused_words NoSite cause = proof_words cause.instance cause.at cause.cert cause.proof
+  refused_words NoCustomer cause = proof_words cause.instance cause.at cause.cert cause.proof
+  refused_words NoLane cause = proof_words cause.instance cause.at cause.cert cause.proof
 
   reached_words : {S : Type 0} (outcome : Outcome) → IsOutcomeOf r outcome → S ⊎ ((command : Command) × (command_of r.words ≡ Some command))
   reached_words (Optimum I P cost) cause = task_words SolveShort I cause.task
   reached_words (Searched claim nodes budget) cause = task_words (SolveLong cause.into cause.result.asked.given) cause.instance cause.result.asked.task
   reached_words (Tried claim nodes budget opened) cause = inr (OnTrial cause.trial.seed cause.trial.sites cause.trial.customers, cause.trial.words_are)
   reached_words (Ascent I d) cause = task_words ShowDuals I cause.task
-  reached_words (Misspelt kind line) cause = task_words (Check cause.name) cause.instance cause.task
+  reached_words (Misspelt kind line) (inl cause) = task_words (Check cause.name) cause.instance cause.task
+  reached_words (Misspelt kind line) (inr cause) = asked_words cause.instance cause.at cause.bytes cause.asked
   reached_words (Judged (Yes claim)) cause = task_words (Check cause.name) cause.instance cause.task
-  reached_words (Judged (No line why)) cause = task_words (Check cause.name) cause.instance cause.task
+  reached_words (Judged (No line why)) (inl cause) = task_words (Check cause.name) cause.instance cause.task
+  reached_words (Judged (No line why)) (inr cause) = asked_words cause.instance cause.at cause.bytes cause.asked
   reached_words (Converted m n) cause = task_words (Convert cause.new) cause.instance cause.task
   reached_words Ended cause = task_words Session cause.1.instance cause.1.task
+  reached_words (Ranged range) cause = proof_words cause.instance cause.at (optimum_of cause.instance cause.plan cause.tree) cause.proof
+  reached_words NoOptimalClaim cause = proof_words cause.instance cause.at cause.cert cause.proof
+  reached_words (Centered end) cause = let asked = cause.result.asked in task_words (Center cause.into cause.new asked.given asked.count) asked.listed asked.task
+  reached_words Drawn cause = let row = cause.1.row_is in task_words (Curve row.first row.last row.asked.given) row.instance row.asked.task
 
   pub words_are : (reply : Reply) → IsCause r reply → (status_of reply ≡ Usage) ⊎ ((command : Command) × (command_of r.words ≡ Some command))
   words_are NoCommand cause = inl refl
@@ -182,6 +210,10 @@ module _ (r : Run) where
       (bytes : List ℕ) × MayHold r.before.shelf.files name bytes × ((answer : Answer) × IsAnswer MAX_CERTIFICATE_BYTES I bytes answer × (due ≡ Exactly (status_in answer)))
   Worked (Convert new) I due = due ≡ Exactly Done
   Worked Session I due = due ≡ AsInput
+  Worked (ShowRange name at) I due = (bytes : List ℕ) × MayHold r.before.shelf.files name bytes × RangeDue I at bytes (λ status. due ≡ Exactly status)
+  Worked (Center into new given count) I due =
+      due ≡ (if nat_lt (max_budget I) (budget_in I given) then Exactly TooLarge else Search (counted_by count I) (budget_in I given))
+  Worked (Curve first last given) I due = due ≡ (if nat_lt (max_budget I) (budget_in I given) then Exactly TooLarge else Exactly Done)
 
   abbrev Meant : Job → Result Instance FileFault → Due → Type 0
   Meant job (Ok I) due = Worked job I due
@@ -219,6 +251,48 @@ module _ (r : Run) where
   answer_is_due answer a =
       task_is_due (Check a.name) a.instance (Exactly (status_in answer)) a.task (a.bytes, a.held, (answer, a.answered, refl))
 
+  -- what the checker answers to the certificate of a range settles its status
+  by_answer : (I : Instance) (at : CostAt) (bytes : List ℕ) (answer : Answer) (status : Status) → AsksRange r I at bytes → length bytes ≤ MAX_CERTIFICATE_BYTES
+      → IsAnswer MAX_CERTIFICATE_BYTES I bytes answer → RangeStatus I at answer status → IsDue (Exactly status)
+  by_answer I at bytes answer status asked within answered is =
+      task_is_due (ShowRange asked.name at) I (Exactly status) asked.task (bytes, asked.held, inr (within, (answer, answered, (status, is, refl))))
+
+  by_proof : (I : Instance) (at : CostAt) (cert : Certificate) (status : Status) → HasProof r I at cert → RangeStatus I at (Ok (Yes cert.claim)) status → IsDue (Exactly status)
+  by_proof I at cert status proof is =
+      let deserved = proof.deserved in
+      let valid = task_valid r (ShowRange proof.asked.name at) I proof.asked.task in
+      by_answer I at (certificate_text I cert) (Ok (Yes cert.claim)) status proof.asked deserved.within
+      (accepted_yes_within MAX_CERTIFICATE_BYTES I cert valid deserved.accepted deserved.small deserved.within) is
+
+  long_proof_is_due : HasLongProof r → IsDue (Exactly TooLarge)
+  long_proof_is_due a = task_is_due (ShowRange a.asked.name a.at) a.instance (Exactly TooLarge) a.asked.task (a.bytes, a.asked.held, inl (a.beyond, refl))
+
+  proof_answer_is_due : (answer : Answer) (status : Status) (a : IsProofAnswered r answer) → RangeStatus a.instance a.at answer status → IsDue (Exactly status)
+  proof_answer_is_due answer status a is = by_answer a.instance a.at a.bytes answer status a.asked a.within a.answered is
+
+  range_is_due : (range : Range) → IsRanged r range → IsDue (Exactly Done)
+  range_is_due range a =
+      let cert = optimum_of a.instance a.plan a.tree in
+      by_proof a.instance a.at cert Done a.proof (ranged_status a.instance a.at cert.claim tt a.there)
+
+  no_optimum_is_due : HasNoOptimum r → IsDue (Exactly CheckNo)
+  no_optimum_is_due a = by_proof a.instance a.at a.cert CheckNo a.proof (no_optimum_status a.instance a.at a.cert.claim a.other)
+
+  no_cost_is_due : (why : RangeRefusal) (a : HasNoCost r why) → (HasCost a.instance a.at → ⊥) → IsDue (Exactly statuses.Refused)
+  no_cost_is_due why a lacks = by_proof a.instance a.at a.cert statuses.Refused a.proof (lacking_status a.instance a.at a.cert.claim a.optimum lacks)
+
+  cost_valid : (why : RangeRefusal) (a : HasNoCost r why) → IsValid a.instance
+  cost_valid why a = let asked = a.proof.asked in task_valid r (ShowRange asked.name a.at) a.instance asked.task
+
+  no_site_is_due : HasNoCost r lacking.NoSite → IsDue (Exactly statuses.Refused)
+  no_site_is_due a = no_cost_is_due lacking.NoSite a (lacks_site a.instance a.at (cost_valid lacking.NoSite a) a.lacks)
+
+  no_customer_is_due : HasNoCost r lacking.NoCustomer → IsDue (Exactly statuses.Refused)
+  no_customer_is_due a = no_cost_is_due lacking.NoCustomer a (lacks_customer a.instance a.at (cost_valid lacking.NoCustomer a) a.lacks)
+
+  no_lane_is_due : HasNoCost r lacking.NoLane → IsDue (Exactly statuses.Refused)
+  no_lane_is_due a = no_cost_is_due lacking.NoLane a (lacks_lane a.instance a.at a.lacks)
+
   many_is_due : HasManySites r → IsDue (Exactly TooLarge)
   many_is_due a =
       task_is_due SolveShort a.instance (Exactly TooLarge) a.task
@@ -229,10 +303,32 @@ module _ (r : Run) where
       task_is_due SolveShort I (Exactly Done) task
       (sym (cond-false (nat_lt MAX_WALK_SITES (length I.sites)) (Exactly TooLarge) (Exactly Done) (not_above (length I.sites) MAX_WALK_SITES few)))
 
+  -- a budget that is given past the greatest
+  too_large : (I : Instance) (given : Option ℕ) (budget : ℕ) (other : Due) → given ≡ Some budget → max_budget I < budget
+      → Exactly TooLarge ≡ (if nat_lt (max_budget I) (budget_in I given) then Exactly TooLarge else other)
+  too_large I given budget other gives large =
+      let above : max_budget I < budget_in I given = subst (λ g. max_budget I < budget_in I g) (sym gives) large in
+      sym (cond-true (nat_lt (max_budget I) (budget_in I given)) (Exactly TooLarge) other (lt-ltb (max_budget I) (budget_in I given) above))
+
+  none_given : {S : Type 0} (budget : ℕ) → None ≡ Some budget → S
+  none_given budget gives = absurd cc
+
+  large_due : (job : Job) (I : Instance) (budget : ℕ) → HasTask r job I → budget_given job ≡ Some budget → max_budget I < budget → IsDue (Exactly TooLarge)
+  large_due (SolveLong into given) I budget task gives large =
+      task_is_due (SolveLong into given) I (Exactly TooLarge) task (too_large I given budget (Search I (budget_in I given)) gives large)
+  large_due (Center into new given count) I budget task gives large =
+      task_is_due (Center into new given count) I (Exactly TooLarge) task (too_large I given budget (Search (counted_by count I) (budget_in I given)) gives large)
+  large_due (Curve first last given) I budget task gives large =
+      task_is_due (Curve first last given) I (Exactly TooLarge) task (too_large I given budget (Exactly Done) gives large)
+  large_due SolveShort I budget task gives large = none_given budget gives
+  large_due ShowDuals I budget task gives large = none_given budget gives
+  large_due (Check name) I budget task gives large = none_given budget gives
+  large_due (Convert new) I budget task gives large = none_given budget gives
+  large_due Session I budget task gives large = none_given budget gives
+  large_due (ShowRange certificate at) I budget task gives large = none_given budget gives
+
   large_is_due : HasLargeBudget r → IsDue (Exactly TooLarge)
-  large_is_due a =
-      task_is_due (SolveLong a.into (Some a.budget)) a.instance (Exactly TooLarge) a.task
-      (sym (cond-true (nat_lt (max_budget a.instance) a.budget) (Exactly TooLarge) (Search a.instance a.budget) (lt-ltb (max_budget a.instance) a.budget a.large)))
+  large_is_due a = large_due a.job a.instance a.budget a.task a.gives a.large
 
   search_is_due : (into : ResultFiles) (given : Option ℕ) (I : Instance) → HasTask r (SolveLong into given) I → budget_in I given ≤ max_budget I → IsDue (Search I (budget_in I given))
   search_is_due into given I task within =
@@ -244,6 +340,22 @@ module _ (r : Run) where
 
   conversion_is_due : (new : List ℕ) (I : Instance) → HasTask r (Convert new) I → IsDue (Exactly Done)
   conversion_is_due new I task = task_is_due (Convert new) I (Exactly Done) task refl
+
+  center_is_due : (into : ResultFiles) (new : List ℕ) (given count : Option ℕ) (I : Instance) → HasTask r (Center into new given count) I → budget_in I given ≤ max_budget I
+      → IsDue (Search (counted_by count I) (budget_in I given))
+  center_is_due into new given count I task within =
+      task_is_due (Center into new given count) I (Search (counted_by count I) (budget_in I given)) task
+      (sym (cond-false (nat_lt (max_budget I) (budget_in I given)) (Exactly TooLarge) (Search (counted_by count I) (budget_in I given)) (not_above (budget_in I given) (max_budget I) within)))
+
+  curve_is_due : (first last : ℕ) (given : Option ℕ) (I : Instance) → HasTask r (Curve first last given) I → budget_in I given ≤ max_budget I → IsDue (Exactly Done)
+  curve_is_due first last given I task within =
+      task_is_due (Curve first last given) I (Exactly Done) task
+      (sym (cond-false (nat_lt (max_budget I) (budget_in I given)) (Exactly TooLarge) (Exactly Done) (not_above (budget_in I given) (max_budget I) within)))
+
+  row_is_due : (row : List ℕ) → IsCurveRow r row → IsDue (Exactly Done)
+  row_is_due row drawn =
+      let asked = drawn.asked in
+      curve_is_due drawn.first drawn.last asked.given drawn.instance asked.task (subst (λ b. b ≤ max_budget drawn.instance) asked.in_force asked.within)
 
   session_is_due : (I : Instance) → HasTask r Session I → IsDue AsInput
   session_is_due I task = task_is_due Session I AsInput task refl
@@ -298,6 +410,24 @@ module _ (r : Run) where
   tried_is_due : (claim : Claim) (nodes budget opened : ℕ) (a : IsTrialAnswer r claim nodes budget opened) → IsDue (Trial a.instance budget)
   tried_is_due claim nodes budget opened a = subst (λ b. IsDue (Trial a.instance b)) (sym a.in_force) (trial_is_due a.instance a.trial)
 
+  -- so is what a search for a center ends with
+  answer_suits : (I : Instance) (budget : ℕ) (answer : CenterAnswer) → (2 ^ (most_decisions I + 1) ≤ budget → HasEndedSearch answer)
+      → Suits told_input (Search I budget) (center_status (center_end I budget answer))
+  answer_suits I budget (centers.Best radius plan tree) decided = inl refl
+  answer_suits I budget (centers.Infeasible tree) decided = inr (inl refl)
+  answer_suits I budget (centers.Open low plan tree at probe) decided = inr (inr (refl, below_unless (2 ^ (most_decisions I + 1)) budget decided))
+
+  centered_suits : (end : CenterEnd) (a : IsCentered r end) → Suits told_input (Search a.instance a.budget) (center_status end)
+  centered_suits end a =
+      subst (λ e. Suits told_input (Search a.instance a.budget) (center_status e)) a.ends (answer_suits a.instance a.budget a.answer a.result.found.decided)
+
+  centered_is_due : (end : CenterEnd) (a : IsCentered r end) → IsDue (Search a.instance a.budget)
+  centered_is_due end a =
+      let asked = a.result.asked in
+      subst (λ b. IsDue (Search a.instance b)) (sym asked.in_force)
+      (subst (λ I. IsDue (Search I (budget_in asked.listed asked.given))) (sym asked.counted)
+      (center_is_due a.into a.new asked.given asked.count asked.listed asked.task (subst (λ b. b ≤ max_budget asked.listed) asked.in_force asked.within)))
+
   -- what a command came to suits what is due
   abbrev SuitsDue : Status → Type 0
   SuitsDue status = (due : Due) × IsDue due × Suits told_input due status
@@ -313,9 +443,13 @@ module _ (r : Run) where
   refused_is_due (Faulty fault) cause = (Exactly BadInput, fault_is_due fault cause, refl)
   refused_is_due ManySites cause = (Exactly TooLarge, many_is_due cause, refl)
   refused_is_due LargeBudget cause = (Exactly TooLarge, large_is_due cause, refl)
-  refused_is_due LongCertificate cause = (Exactly TooLarge, answer_is_due (Err TooLong) cause, refl)
+  refused_is_due LongCertificate (inl cause) = (Exactly TooLarge, answer_is_due (Err TooLong) cause, refl)
+  refused_is_due LongCertificate (inr cause) = (Exactly TooLarge, long_proof_is_due cause, refl)
   refused_is_due LongLine cause = ended_suits AtLongLine cause cause.1.run.stops.0
   refused_is_due LongInput cause = ended_suits AtLongInput cause cause.1.run.stops.0
+  refused_is_due NoSite cause = (Exactly statuses.Refused, no_site_is_due cause, refl)
+  refused_is_due NoCustomer cause = (Exactly statuses.Refused, no_customer_is_due cause, refl)
+  refused_is_due NoLane cause = (Exactly statuses.Refused, no_lane_is_due cause, refl)
 
   reached_is_due : (outcome : Outcome) → IsOutcomeOf r outcome → SuitsDue (outcome_status outcome)
   unfolding status_in
@@ -323,11 +457,17 @@ module _ (r : Run) where
   reached_is_due (Searched claim nodes budget) cause = (Search cause.instance budget, stored_is_due claim nodes budget cause, stored_suits claim nodes budget cause)
   reached_is_due (Tried claim nodes budget opened) cause = (Trial cause.instance budget, tried_is_due claim nodes budget opened cause, tried_suits claim nodes budget opened cause)
   reached_is_due (Ascent I d) cause = (Exactly Done, duals_are_due I cause.task, refl)
-  reached_is_due (Misspelt kind line) cause = (Exactly CheckNo, answer_is_due (Err (Text kind line)) cause, refl)
+  reached_is_due (Misspelt kind line) (inl cause) = (Exactly CheckNo, answer_is_due (Err (Text kind line)) cause, refl)
+  reached_is_due (Misspelt kind line) (inr cause) = (Exactly CheckNo, proof_answer_is_due (Err (Text kind line)) CheckNo cause refl, refl)
   reached_is_due (Judged (Yes claim)) cause = (Exactly Done, accepted_is_due cause.instance cause.name cause.cert cause.task cause.deserved cause.held, refl)
-  reached_is_due (Judged (No line why)) cause = (Exactly CheckNo, answer_is_due (Ok (No line why)) cause, refl)
+  reached_is_due (Judged (No line why)) (inl cause) = (Exactly CheckNo, answer_is_due (Ok (No line why)) cause, refl)
+  reached_is_due (Judged (No line why)) (inr cause) = (Exactly CheckNo, proof_answer_is_due (Ok (No line why)) CheckNo cause refl, refl)
   reached_is_due (Converted m n) cause = (Exactly Done, conversion_is_due cause.new cause.instance cause.task, refl)
   reached_is_due Ended cause = ended_suits AtEnd cause cause.1.run.stops.0
+  reached_is_due (Ranged range) cause = (Exactly Done, range_is_due range cause, refl)
+  reached_is_due NoOptimalClaim cause = (Exactly CheckNo, no_optimum_is_due cause, refl)
+  reached_is_due (Centered end) cause = (Search cause.instance cause.budget, centered_is_due end cause, centered_suits end cause)
+  reached_is_due Drawn cause = (Exactly Done, row_is_due cause.0 cause.1.row_is, refl)
 
   abbrev HasDue : Status → Type 0
   HasDue status = SuitsDue status ⊎ Fails status
@@ -348,18 +488,28 @@ module _ (r : Run) where
   settled_is_due (Refused (Faulty fault)) cause sure = fault_is_due fault cause
   settled_is_due (Refused ManySites) cause sure = many_is_due cause
   settled_is_due (Refused LargeBudget) cause sure = large_is_due cause
-  settled_is_due (Refused LongCertificate) cause sure = answer_is_due (Err TooLong) cause
+  settled_is_due (Refused LongCertificate) (inl cause) sure = answer_is_due (Err TooLong) cause
+  settled_is_due (Refused LongCertificate) (inr cause) sure = long_proof_is_due cause
   settled_is_due (Refused LongLine) cause sure = absurd sure
   settled_is_due (Refused LongInput) cause sure = absurd sure
+  settled_is_due (Refused NoSite) cause sure = no_site_is_due cause
+  settled_is_due (Refused NoCustomer) cause sure = no_customer_is_due cause
+  settled_is_due (Refused NoLane) cause sure = no_lane_is_due cause
   settled_is_due (Reached (Optimum I P cost)) cause sure = few_is_due I cause.task cause.few
   settled_is_due (Reached (Searched claim nodes budget)) cause sure = absurd sure
   settled_is_due (Reached (Tried claim nodes budget opened)) cause sure = absurd sure
   settled_is_due (Reached (Ascent I d)) cause sure = duals_are_due I cause.task
-  settled_is_due (Reached (Misspelt kind line)) cause sure = answer_is_due (Err (Text kind line)) cause
+  settled_is_due (Reached (Misspelt kind line)) (inl cause) sure = answer_is_due (Err (Text kind line)) cause
+  settled_is_due (Reached (Misspelt kind line)) (inr cause) sure = proof_answer_is_due (Err (Text kind line)) CheckNo cause refl
   settled_is_due (Reached (Judged (Yes claim))) cause sure = accepted_is_due cause.instance cause.name cause.cert cause.task cause.deserved cause.held
-  settled_is_due (Reached (Judged (No line why))) cause sure = answer_is_due (Ok (No line why)) cause
+  settled_is_due (Reached (Judged (No line why))) (inl cause) sure = answer_is_due (Ok (No line why)) cause
+  settled_is_due (Reached (Judged (No line why))) (inr cause) sure = proof_answer_is_due (Ok (No line why)) CheckNo cause refl
   settled_is_due (Reached (Converted m n)) cause sure = conversion_is_due cause.new cause.instance cause.task
   settled_is_due (Reached Ended) cause sure = absurd sure
+  settled_is_due (Reached (Ranged range)) cause sure = range_is_due range cause
+  settled_is_due (Reached NoOptimalClaim) cause sure = no_optimum_is_due cause
+  settled_is_due (Reached (Centered end)) cause sure = absurd sure
+  settled_is_due (Reached Drawn) cause sure = row_is_due cause.0 cause.1.row_is
 
   -- the status is that of want of memory
   pub ran_out : (status : Status) → EndsWithoutMemory r status → status ≡ NoMemory
@@ -388,6 +538,11 @@ module _ (r : Run) where
         p.2.2 ∙ ap (λ answer. Exactly (status_in answer)) once ∙ sym q.2.2
     worked_once (Convert new) I s t p q = p ∙ sym q
     worked_once Session I s t p q = p ∙ sym q
+    worked_once (ShowRange name at) I s t p q =
+        let same : q.0 ≡ p.0 = same_bytes name q.0 p.0 q.1 p.1 in
+        range_due_once Exactly I at p.0 s t p.2 (subst (λ bytes. RangeDue I at bytes (λ status. t ≡ Exactly status)) same q.2)
+    worked_once (Center into new given count) I s t p q = p ∙ sym q
+    worked_once (Curve first last given) I s t p q = p ∙ sym q
 
     meant_once : (job : Job) (meaning : Result Instance FileFault) (s t : Due) → Meant job meaning s → Meant job meaning t → s ≡ t
     meant_once job (Ok I) s t p q = worked_once job I s t p q
@@ -439,6 +594,7 @@ module _ (r : Run) where
     port_cut port.Result = refl
     port_cut port.New = refl
     port_cut port.Input = refl
+    port_cut port.Center = refl
 
     fails_cut : (before : Status) → Fails before → when_cut before ≡ before
     fails_cut before a = ap when_cut a.2 ∙ port_cut a.0 ∙ sym a.2
@@ -467,6 +623,9 @@ module _ (r : Run) where
     cut_in_row : (other status : Status) → EndsInRow r status → IsHindered r other status
     cut_in_row other status a = elim a.printed.status_is [ inl cut ↦ RowRefused (a.done ++ a.reply, a.row_is) cut.0 cut.1 | inr out ↦ MemoryRanOut out ]
 
+    cut_in_curve : (status : Status) → EndsInCurve r status → IsHindered r Done status
+    cut_in_curve status a = elim a.printed.status_is [ inl cut ↦ OutputFailed cut.0 cut.1 | inr out ↦ MemoryRanOut out ]
+
     -- so a run ends as is due, unless it is hindered
     ends_as_due : (due : Due) (status : Status) → IsDue due → Ends r status → EndsDue due status
     ends_as_due due status is (inl a) =
@@ -475,7 +634,9 @@ module _ (r : Run) where
           | inr fails ↦ hindered due status (λ other. printed_fails other (status_of a.reply) status a.row (text_of a.reply) fails a.printed)
         ]
     ends_as_due due status is (inr (inl out)) = hindered due status (λ other. MemoryRanOut (ran_out status out))
-    ends_as_due due status is (inr (inr cut)) = hindered due status (λ other. cut_in_row other status cut)
+    ends_as_due due status is (inr (inr (inl cut))) = hindered due status (λ other. cut_in_row other status cut)
+    ends_as_due due status is (inr (inr (inr cut))) =
+        subst (λ d. EndsDue d status) (due_once (Exactly Done) due (row_is_due cut.done cut.row_is) is) (Done, refl, inr (cut_in_curve status cut))
 
     exactly : (due status : Status) → EndsDue (Exactly due) status → EndsAs r due status
     exactly due status ends = subst (λ d. EndsAs r d status) ends.1 ends.2
@@ -518,6 +679,14 @@ module _ (r : Run) where
     no_hindered status (inl done) = inl done
     no_hindered status (inr h) = inr (inr (alike Done CheckNo status refl h))
 
+    range_hindered : (status : Status) → EndsAs r Done status → (status ≡ Done) ⊎ ((status ≡ statuses.Refused) ⊎ EndsAs r CheckNo status)
+    range_hindered status (inl done) = inl done
+    range_hindered status (inr h) = inr (inr (inr (alike Done CheckNo status refl h)))
+
+    refusal_hindered : (status : Status) → EndsAs r statuses.Refused status → (status ≡ Done) ⊎ ((status ≡ statuses.Refused) ⊎ EndsAs r CheckNo status)
+    refusal_hindered status (inl same) = inr (inl same)
+    refusal_hindered status (inr h) = inr (inr (inr (alike statuses.Refused CheckNo status refl h)))
+
     said : (status : Status) (bytes : List ℕ) (answer : Answer) → length bytes ≤ MAX_CERTIFICATE_BYTES → IsDecided MAX_CERTIFICATE_BYTES bytes answer
         → EndsAs r (status_in answer) status → (status ≡ Done) ⊎ EndsAs r CheckNo status
     unfolding status_in
@@ -538,10 +707,48 @@ module _ (r : Run) where
               (exactly (status_in found.0) status (ends_as_due (Exactly (status_in found.0)) status (task_is_due (Check name) I (Exactly (status_in found.0)) task (bytes, held, (found.0, found.1, refl))) ends));
         }
 
+    -- the range, a refusal, or what hinders it as it would a no
+    range_said : (I : Instance) (at : CostAt) (status : Status) (bytes : List ℕ) (answer : Answer) (due : Status) → length bytes ≤ MAX_CERTIFICATE_BYTES → IsDecided MAX_CERTIFICATE_BYTES bytes answer
+        → RangeStatus I at answer due → EndsAs r due status → (status ≡ Done) ⊎ ((status ≡ statuses.Refused) ⊎ EndsAs r CheckNo status)
+    unfolding status_in
+    range_said I at status bytes (Ok (Yes (claimed.Optimal cost))) due within decided (inl is) ends = range_hindered status (subst (λ d. EndsAs r d status) is.1 ends)
+    range_said I at status bytes (Ok (Yes (claimed.Optimal cost))) due within decided (inr is) ends = refusal_hindered status (subst (λ d. EndsAs r d status) is.1 ends)
+    range_said I at status bytes (Ok (Yes claimed.Infeasible)) due within decided is ends = inr (inr (subst (λ d. EndsAs r d status) is ends))
+    range_said I at status bytes (Ok (Yes (claimed.Bracket low high))) due within decided is ends = inr (inr (subst (λ d. EndsAs r d status) is ends))
+    range_said I at status bytes (Ok (No line why)) due within decided is ends = inr (inr (subst (λ d. EndsAs r d status) is ends))
+    range_said I at status bytes (Err (Text kind line)) due within decided is ends = inr (inr (subst (λ d. EndsAs r d status) is ends))
+    range_said I at status bytes (Err TooLong) due within decided is ends = absurd (omega (arith, within, decided))
+    range_said I at status bytes (Err ReadFailed) due within decided is ends = absurd decided
+    range_said I at status bytes (Err unread.NoMemory) due within decided is ends = absurd decided
+
+    range_complete : (status : Status) → Ends r status → (name : List ℕ) (at : CostAt) (I : Instance) → HasTask r (ShowRange name at) I → IsRangeDue r (λ due. EndsAs r due status) name at I status
+    range_complete status ends name at I task =
+        record {
+          ranged = λ cert deserved optimum held there.
+              exactly Done status
+              (ends_as_due (Exactly Done) status
+              (by_proof I at cert Done (record { asked = record { name = name; task = task; held = held }; deserved = deserved }) (ranged_status I at cert.claim optimum there)) ends);
+          refused = λ cert deserved optimum held lacks.
+              exactly statuses.Refused status
+              (ends_as_due (Exactly statuses.Refused) status
+              (by_proof I at cert statuses.Refused (record { asked = record { name = name; task = task; held = held }; deserved = deserved }) (lacking_status I at cert.claim optimum lacks)) ends);
+          otherwise = λ bytes held within.
+              let found = some_answer MAX_CERTIFICATE_BYTES I bytes (task_valid r (ShowRange name at) I task) in
+              let due = some_range_status I at found.0 in
+              range_said I at status bytes found.0 due.0 within (answer_decided MAX_CERTIFICATE_BYTES I bytes found.0 found.1) due.1
+              (exactly due.0 status
+              (ends_as_due (Exactly due.0) status (by_answer I at bytes found.0 due.0 (record { name = name; task = task; held = held }) within found.1 due.1) ends));
+        }
+
     pub complete : (status : Status) → Ends r status → (job : Job) (I : Instance) → HasTask r job I → IsComplete r job I status
     complete status ends SolveShort I task = λ few. exactly Done status (ends_as_due (Exactly Done) status (few_is_due I task few) ends)
     complete status ends (SolveLong into given) I task = λ within. search_ends I (budget_in I given) status (ends_as_due (Search I (budget_in I given)) status (search_is_due into given I task within) ends)
     complete status ends ShowDuals I task = exactly Done status (ends_as_due (Exactly Done) status (duals_are_due I task) ends)
     complete status ends (Check name) I task = checked status ends name I task
     complete status ends (Convert new) I task = exactly Done status (ends_as_due (Exactly Done) status (conversion_is_due new I task) ends)
+    complete status ends (Center into new given count) I task =
+        λ within.
+        search_ends (counted_by count I) (budget_in I given) status (ends_as_due (Search (counted_by count I) (budget_in I given)) status (center_is_due into new given count I task within) ends)
+    complete status ends (Curve first last given) I task = λ within. exactly Done status (ends_as_due (Exactly Done) status (curve_is_due first last given I task within) ends)
     complete status ends Session I task = input_ends status told_input refl (ends_as_due AsInput status (session_is_due I task) ends)
+    complete status ends (ShowRange name at) I task = range_complete status ends name at I task

@@ -1,8 +1,10 @@
 pub mod Alone
 pub mod Apart
 pub mod Causes
+pub mod Centering
 pub mod Commands
 pub mod Converting
+pub mod Drawn
 pub mod Dues
 pub mod Gaining
 pub mod Giving
@@ -10,7 +12,9 @@ pub mod NoCommands
 pub mod Outcomes
 pub mod Parts
 pub mod Printing
+pub mod Proving
 pub mod Quitting
+pub mod Ranging
 pub mod Reading
 pub mod Searching
 pub mod Spanning

@@ -9,15 +9,16 @@ use Rattle.dualoc_cli.specs.declared.status.Status.{Status}
 use Rattle.dualoc_cli.specs.declared.status.Status.TheVariants.{Done, Usage, NoMemory}
 use Rattle.instance_forms.specs.Forms.{InstanceFile}
 use Rattle.dualoc_cli.specs.declared.reply.Reply.{Reply}
-use Rattle.dualoc_cli.specs.Command.{Command, OnFile, OnTrial, Job, SolveShort, SolveLong, ShowDuals, Check, Convert, Session, command_of}
+use Rattle.dualoc_cli.specs.Command.{Command, OnFile, OnTrial, Job, SolveShort, SolveLong, ShowDuals, Check, Convert, Session, ShowRange, Center, Curve, command_of}
 use Rattle.dualoc_cli.specs.Status.{when_cut}
 use Rattle.dualoc_cli.specs.Reply.{status_of, text_of}
 use Rattle.dualoc_cli.specs.Run.{Run, HasTask, ChangesNoFile}
-use Rattle.dualoc_cli.specs.Session.{IsSessionRow, HoldsSession, stop_of}
+use Rattle.dualoc_cli.specs.Session.{IsSessionRow, HoldsSession, RowEnd, AfterSession, AfterCurve, row_end}
 use Rattle.dualoc_cli.specs.Due.{IsCause, IsPrinted, PrintsFront, IsInRow, RowBefore, UntouchedBefore, ReadsNoLine, Ends, StaysUntouched, IsRefusalStatus, IsResult, Runs}
-use Rattle.dualoc_cli.specs.Step.{ComesTo, RunsOut, IsStopped, KeepsAll, cut_status}
+use Rattle.dualoc_cli.specs.Step.{ComesTo, RunsOut, IsStopped, IsCurveStopped, KeepsAll, cut_status}
+use Rattle.dualoc_cli.specs.Curve.{IsCurveRow}
 use Rattle.dualoc_cli.proofs.Parts.{IsOnce}
-use Rattle.dualoc_cli.proofs.Printing.{printed_behind, stopped_behind}
+use Rattle.dualoc_cli.proofs.Printing.{printed_behind, stopped_behind, line_stopped_behind}
 use Rattle.whatif_session.specs.Run.{Stop, AtRefusedWrite}
 use Rattle.dualoc_cli.proofs.Dues.{not_result, uncut_refusal, no_command, words_are, ran_out, exact, complete, tried}
 
@@ -33,7 +34,9 @@ module _ (r : Run) where
         | inr front ↦ elim front.status_is [ inl cut ↦ inl (cut.1 ∙ ap when_cut (usage_of a.reply a.cause none)) | inr out ↦ inr out ]
       ]
   usage status (inr (inl out)) none = inr (ran_out r status out)
-  usage status (inr (inr cut)) none = absurd (no_command r (OnFile cut.row_is.task.file Session) none cut.row_is.task.asked.words_are)
+  usage status (inr (inr (inl cut))) none = absurd (no_command r (OnFile cut.row_is.task.file Session) none cut.row_is.task.asked.words_are)
+  usage status (inr (inr (inr cut))) none =
+      let row = cut.row_is in absurd (no_command r (OnFile row.asked.task.file (Curve row.first row.last row.asked.given)) none row.asked.task.asked.words_are)
 
   no_result : (status : Status) → status ≡ NoMemory → IsResult status → ⊥
   no_result status is h = subst IsResult is h
@@ -51,7 +54,8 @@ module _ (r : Run) where
         | inr front ↦ absurd (cut_result (status_of a.reply) status _ front.status_is is)
       ]
   results status (inr (inl out)) is = absurd (no_result status (ran_out r status out) is)
-  results status (inr (inr cut)) is = absurd (cut_result Done status _ cut.printed.status_is is)
+  results status (inr (inr (inl cut))) is = absurd (cut_result Done status _ cut.printed.status_is is)
+  results status (inr (inr (inr cut))) is = absurd (cut_result Done status _ cut.printed.status_is is)
 
   taken : (status : Status) → Ends r status → IsResult status → r.after.output.refusals.count ≡ r.before.output.refusals.count
   taken status (inl a) is =
@@ -60,7 +64,8 @@ module _ (r : Run) where
         | inr front ↦ absurd (cut_result (status_of a.reply) status _ front.status_is is)
       ]
   taken status (inr (inl out)) is = absurd (no_result status (ran_out r status out) is)
-  taken status (inr (inr cut)) is = absurd (cut_result Done status _ cut.printed.status_is is)
+  taken status (inr (inr (inl cut))) is = absurd (cut_result Done status _ cut.printed.status_is is)
+  taken status (inr (inr (inr cut))) is = absurd (cut_result Done status _ cut.printed.status_is is)
 
   -- a text is cut only where a write failed or memory ran out
   uncut : (row text : List ℕ) (due status : Status) → PrintsFront row text due status r.before.output r.after.output
@@ -75,25 +80,33 @@ module _ (r : Run) where
         | inr front ↦ absurd (uncut a.row (text_of a.reply) (status_of a.reply) status front unrisen left)
       ]
   unrefused status (inr (inl out)) unrisen left = absurd (left (ran_out r status out))
-  unrefused status (inr (inr cut)) unrisen left = absurd (uncut cut.done cut.reply Done status cut.printed unrisen left)
+  unrefused status (inr (inr (inl cut))) unrisen left = absurd (uncut cut.done cut.reply Done status cut.printed unrisen left)
+  unrefused status (inr (inr (inr cut))) unrisen left = absurd (uncut cut.done cut.line Done status cut.printed unrisen left)
 
   -- a run that ends with a refusal has answered so
-  reply_untouched : (stop : Option Stop) (row : List ℕ) (status : Status) → UntouchedBefore r stop status → RowBefore r stop row → IsRefusalStatus status → ChangesNoFile r ⊎ HoldsSession r
+  reply_untouched : (stop : Option RowEnd) (row : List ℕ) (status : Status) → UntouchedBefore r stop status → RowBefore r stop row → IsRefusalStatus status → ChangesNoFile r ⊎ HoldsSession r
   reply_untouched None row status same is h = inl (same.0 h)
-  reply_untouched (Some stop) row status same is h = inr (stop, (row, is))
+  reply_untouched (Some (AfterSession stop)) row status same is h = inr (stop, (row, is))
+  reply_untouched (Some AfterCurve) row status same is h = inl same.0
+
+  -- the status of a line of a curve that was cut is no refusal
+  no_refusal : (status : Status) (rose : Type 0) → (rose × (status ≡ when_cut Done)) ⊎ (status ≡ NoMemory) → IsRefusalStatus status → ⊥
+  no_refusal status rose (inl cut) h = subst IsRefusalStatus cut.1 h
+  no_refusal status rose (inr out) h = subst IsRefusalStatus out h
 
   untouched_before : (status : Status) → Ends r status → IsRefusalStatus status → ChangesNoFile r ⊎ HoldsSession r
   untouched_before status (inl a) h =
       elim a.printed [
-        | inl whole ↦ reply_untouched (stop_of a.reply) a.row (status_of a.reply) a.untouched a.row_is (subst IsRefusalStatus whole.status_is h)
+        | inl whole ↦ reply_untouched (row_end a.reply) a.row (status_of a.reply) a.untouched a.row_is (subst IsRefusalStatus whole.status_is h)
         | inr front ↦
             elim front.status_is [
-              | inl cut ↦ reply_untouched (stop_of a.reply) a.row (status_of a.reply) a.untouched a.row_is (uncut_refusal (status_of a.reply) (subst IsRefusalStatus cut.1 h))
+              | inl cut ↦ reply_untouched (row_end a.reply) a.row (status_of a.reply) a.untouched a.row_is (uncut_refusal (status_of a.reply) (subst IsRefusalStatus cut.1 h))
               | inr out ↦ absurd (subst IsRefusalStatus out h)
             ]
       ]
   untouched_before status (inr (inl out)) h = absurd (subst IsRefusalStatus (ran_out r status out) h)
-  untouched_before status (inr (inr cut)) h = inr (AtRefusedWrite, (cut.done ++ cut.reply, cut.row_is))
+  untouched_before status (inr (inr (inl cut))) h = inr (AtRefusedWrite, (cut.done ++ cut.reply, cut.row_is))
+  untouched_before status (inr (inr (inr cut))) h = absurd (no_refusal status _ cut.printed.status_is h)
 
   -- only a session may have changed files then
   held_words : HoldsSession r → (I : Instance) × HasTask r Session I
@@ -126,6 +139,9 @@ module _ (r : Run) where
   stays (Some (OnFile file (Check certificate))) status is same = λ h. no_session file (Check certificate) is (λ e. subst IsOnce e tt) (same h)
   stays (Some (OnFile file (Convert new))) status is same = λ h. no_session file (Convert new) is (λ e. subst IsOnce e tt) (same h)
   stays (Some (OnFile file Session)) status is same = same
+  stays (Some (OnFile file (ShowRange certificate at))) status is same = λ h. no_session file (ShowRange certificate at) is (λ e. subst IsOnce e tt) (same h)
+  stays (Some (OnFile file (Center into new given count))) status is same = λ h. no_session file (Center into new given count) is (λ e. subst IsOnce e tt) (same h)
+  stays (Some (OnFile file (Curve first last given))) status is same = λ h. no_session file (Curve first last given) is (λ e. cc) (same h)
   stays (Some (OnTrial seed m n)) status is same = λ h. none_held_in_trial seed m n is (same h)
 
   -- memory ran out
@@ -133,9 +149,11 @@ module _ (r : Run) where
   without_memory status mid out none =
       inr (inl (record { row = out.row; row_is = out.row_is; printed = printed_behind out.row (codes "no memory\n") NoMemory status r.before.output mid r.after.output out.gains none }))
 
-  unread_before : (stop : Option Stop) (status : Status) (row : List ℕ) → UntouchedBefore r stop status → RowBefore r stop row → ((row ≡ []) × ReadsNoLine r (command_of r.words)) ⊎ ((s : Stop) × IsSessionRow r s row)
+  unread_before : (stop : Option RowEnd) (status : Status) (row : List ℕ) → UntouchedBefore r stop status → RowBefore r stop row
+      → ((row ≡ []) × ReadsNoLine r (command_of r.words)) ⊎ (((s : Stop) × IsSessionRow r s row) ⊎ IsCurveRow r row)
   unread_before None status row same is = inl (is, same.1)
-  unread_before (Some stop) status row same is = inr (stop, is)
+  unread_before (Some (AfterSession stop)) status row same is = inr (inl (stop, is))
+  unread_before (Some AfterCurve) status row same is = inr (inr is.row_is)
 
   -- a reply that has its cause was printed, or memory ran out before its text was there
   pub ended : (status : Status) (mid : SinkState) (reply : Reply) → ComesTo r mid reply
@@ -152,12 +170,14 @@ module _ (r : Run) where
       })
   ended status mid reply comes (inr none) =
       without_memory status mid
-      (record { row = comes.row; row_is = unread_before (stop_of reply) (status_of reply) comes.row comes.untouched comes.row_is; gains = comes.gains }) none
+      (record { row = comes.row; row_is = unread_before (row_end reply) (status_of reply) comes.row comes.untouched comes.row_is; gains = comes.gains }) none
 
   -- a reply in a row was refused
-  pub ended_in_row : (status : Status) (fault : SinkFault) → IsStopped r r.after.output fault → status ≡ cut_status fault → Ends r status
-  ended_in_row status fault stopped is =
-      inr (inr (record { done = stopped.done; reply = stopped.reply; row_is = stopped.row_is; last = stopped.last; printed = stopped_behind r status fault stopped is }))
+  pub ended_in_row : (status : Status) (fault : SinkFault) → IsStopped r r.after.output fault ⊎ IsCurveStopped r r.after.output fault → status ≡ cut_status fault → Ends r status
+  ended_in_row status fault (inl stopped) is =
+      inr (inr (inl (record { done = stopped.done; reply = stopped.reply; row_is = stopped.row_is; last = stopped.last; printed = stopped_behind r status fault stopped is })))
+  ended_in_row status fault (inr stopped) is =
+      inr (inr (inr (record { done = stopped.done; line = stopped.line; row_is = stopped.row_is; asked_on = stopped.asked_on; next = stopped.next; printed = line_stopped_behind r status fault stopped is })))
 
   pub runs : (status : Status) → Ends r status → KeepsAll r → Runs r status
   runs status ends kept =

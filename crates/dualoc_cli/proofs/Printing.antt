@@ -9,7 +9,7 @@ use Rattle.dualoc_cli.specs.declared.status.Status.TheVariants.{Done, NoMemory}
 use Rattle.dualoc_cli.specs.Status.{when_cut}
 use Rattle.dualoc_cli.specs.Run.{Run}
 use Rattle.dualoc_cli.specs.Due.{PrintsFront, IsPrinted}
-use Rattle.dualoc_cli.specs.Step.{IsStopped, cut_status}
+use Rattle.dualoc_cli.specs.Step.{IsStopped, IsCurveStopped, cut_status}
 use Rattle.dualoc_cli.specs.Talk.{GainsWhole}
 use Rattle.dualoc_cli.proofs.Gaining.{back_more, rose_since, refused_since}
 
@@ -36,6 +36,16 @@ cut_by rose sink.NoMemory status failed is = inr is
 
 pub stopped_behind : (r : Run) (status : Status) (fault : SinkFault) (stopped : IsStopped r r.after.output fault) → status ≡ cut_status fault → PrintsFront stopped.done stopped.reply Done status r.before.output r.after.output
 stopped_behind r status fault stopped is =
+    record {
+      len = stopped.len;
+      front = stopped.front;
+      gained = stopped.gained;
+      stopped = stopped.stopped;
+      status_is = cut_by _ fault status stopped.failed is;
+    }
+
+pub line_stopped_behind : (r : Run) (status : Status) (fault : SinkFault) (stopped : IsCurveStopped r r.after.output fault) → status ≡ cut_status fault → PrintsFront stopped.done stopped.line Done status r.before.output r.after.output
+line_stopped_behind r status fault stopped is =
     record {
       len = stopped.len;
       front = stopped.front;

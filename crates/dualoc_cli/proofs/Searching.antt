@@ -24,11 +24,11 @@ use Rattle.tree_search.specs.Budget.{max_budget, budget_in}
 use Rattle.tree_search.specs.declared.budget.TheConstants.{DEFAULT_BUDGET}
 use Rattle.tree_laws.proofs.Once.{leaf_once}
 use Rattle.tree_laws.proofs.Standing.{small_costs, short_text_of}
-use Rattle.dualoc_cli.specs.Command.{ResultFiles, SolveLong}
+use Rattle.dualoc_cli.specs.Command.{ResultFiles, Job, SolveLong}
 use Rattle.shelf_port.specs.Ports.{ShelfState}
 use Rattle.dualoc_cli.specs.declared.reply.Reply.{Reply}
 use Rattle.dualoc_cli.specs.Run.{Run, HasTask}
-use Rattle.dualoc_cli.specs.Search.{HasLargeBudget, HasSearch, IsEnd, IsFound}
+use Rattle.dualoc_cli.specs.Search.{budget_given, HasLargeBudget, HasSearch, IsEnd, IsFound}
 use Rattle.dualoc_cli.specs.Due.{IsCause}
 use Rattle.dualoc_cli.specs.Step.{Covers}
 
@@ -92,7 +92,7 @@ module _ (I : Instance) (valid : IsValid I) (budget : ℕ) (within : IsWithin I 
         end = end;
       }
 
-  found_at_zeros : (a : Answer) → IsAnswerTo I (leaf_of I (zeros I 1)) None budget a → IsFound I budget (certificate_in I a)
+  pub found_at_zeros : (a : Answer) → IsAnswerTo I (leaf_of I (zeros I 1)) None budget a → IsFound I budget (certificate_in I a)
   found_at_zeros (Optimal plan cost tree made) is = found_by (Optimal plan cost tree made) is tt
   found_at_zeros (Infeasible tree made) is = found_by (Infeasible tree made) is tt
   found_at_zeros (Bracket low plan tree made) is = found_by (Bracket low plan tree made) is is.cause
@@ -108,9 +108,12 @@ feasible_plan I old handed budget (Bracket low None tree made) is = tt
 feasible_plan I old handed budget (Bracket low (Some P) tree made) is = is.accepted.shows.0.0
 
 -- a budget in force that is past the greatest was given
+pub large_for : (r : Run) (job : Job) (given : Option ℕ) (I : Instance) → HasTask r job I → budget_given job ≡ given → max_budget I < budget_in I given → HasLargeBudget r
+large_for r job None I task gives large = absurd (omega (arith, large, min-le_left (max_budget I) DEFAULT_BUDGET))
+large_for r job (Some budget) I task gives large = record { instance = I; job = job; budget = budget; task = task; gives = gives; large = large }
+
 pub large_given : (r : Run) (into : ResultFiles) (given : Option ℕ) (I : Instance) → HasTask r (SolveLong into given) I → max_budget I < budget_in I given → HasLargeBudget r
-large_given r into None I task large = absurd (omega (arith, large, min-le_left (max_budget I) DEFAULT_BUDGET))
-large_given r into (Some budget) I task large = record { instance = I; into = into; budget = budget; task = task; large = large }
+large_given r into given I task large = large_for r (SolveLong into given) given I task refl large
 
 -- a reply has its cause for each run that asks for a search with this budget in force, and so for each that asks for the task
 pub asked_cause : {E : Type 0} (result : Result Reply E) (into : ResultFiles) (given : Option ℕ) (I : Instance) (budget : ℕ) (old new : ShelfState) → budget ≡ budget_in I given → budget ≤ max_budget I

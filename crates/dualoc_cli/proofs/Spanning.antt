@@ -1,5 +1,5 @@
 -- Parts of runs, over all runs that ask so.
-use Rattle.std.proofs.Common.{◌≡◌, ℕ, List, None, Some, Result, Ok, Err, refl, sym, ap, ◌∙◌, subst, arith}
+use Rattle.std.proofs.Common.{◌≡◌, ℕ, List, Option, None, Some, Result, Ok, Err, refl, sym, ap, ◌∙◌, subst, arith}
 use Rattle.std.specs.Prelude.{IfOk, IfErr}
 use Rattle.shelf_port.specs.Files.{NeverFalls, Rose}
 use Rattle.shelf_port.specs.Ports.{SinkState, Ports, ports_of}
@@ -13,15 +13,16 @@ use Rattle.dualoc_cli.specs.declared.reply.Reply.TheVariants.{NoCommand, Failed,
 use Rattle.dualoc_cli.specs.declared.reply.Port.TheVariants as port
 use Rattle.dualoc_cli.specs.declared.reply.Refusal.TheVariants.{LongInstance, Faulty}
 use Rattle.dualoc_cli.specs.declared.halt.Halt.{Halt}
-use Rattle.dualoc_cli.specs.Command.{Command, OnFile, OnTrial, Job, Session, command_of}
+use Rattle.dualoc_cli.specs.Command.{Command, OnFile, OnTrial, Job, Session, Curve, command_of}
 use Rattle.dualoc_cli.specs.Reply.{status_of}
 use Rattle.dualoc_cli.specs.Run.{Run, run_of, HasTask}
-use Rattle.dualoc_cli.specs.Session.{stop_of}
+use Rattle.dualoc_cli.specs.Session.{row_end}
 use Rattle.dualoc_cli.specs.Due.{IsCause, IsRefusalStatus, KeepsFiles}
 use Rattle.dualoc_cli.specs.Step.{InRuns, Spans, InSpans, ComesTo, RunsOut, ComesToHalt, KeepsAll}
 use Rattle.dualoc_cli.specs.Talk.{IsEnded, IsHalted}
+use Rattle.dualoc_cli.specs.Drawing.{IsCurveReply, IsCurveUnanswered}
 use Rattle.dualoc_cli.proofs.Causes.{covers_rest, fails_in, too_long, file_fault, task_of}
-use Rattle.dualoc_cli.proofs.Parts.{IsOnce, once_comes, once_runs_out, once_keeps, unread_comes, unread_runs_out, unread_keeps, none_keeps, trial_keeps, session_comes, session_halts, session_keeps}
+use Rattle.dualoc_cli.proofs.Parts.{IsOnce, once_comes, once_runs_out, once_keeps, unread_comes, unread_runs_out, unread_keeps, none_keeps, trial_keeps, session_comes, session_halts, session_keeps, curve_comes, curve_halts, curve_keeps}
 
 module _ (job : Job) (I : Instance) (old new : Ports) where
   abbrev Asks : Run → Type 0
@@ -51,6 +52,21 @@ module _ (job : Job) (I : Instance) (old new : Ports) where
 
     pub session_kept : (result : Result Reply Halt) → IfOk result (IsEnded session_limits I old new) → IfErr result (IsHalted session_limits I old new) → InSpans Asks old new KeepsAll
     session_kept result ended halted = λ r task part. session_keeps r old new part I (asked_session r task) result ended halted
+
+  module _ (first last : ℕ) (given : Option ℕ) (is : job ≡ Curve first last given) (same_files : new.shelf.files ≡ old.shelf.files) (same_input : new.input ≡ old.input) where
+    asked_curve : (r : Run) → Asks r → HasTask r (Curve first last given) I
+    asked_curve r task = subst (λ j. HasTask r j I) is task
+
+    pub curve_replied : (result : Result Reply Halt) → IfOk result (IsCurveReply I first last given old.output new.output) → IfOk result (λ reply. InSpans Asks old new (λ r. ComesTo r new.output reply))
+    curve_replied (Ok reply) replied = λ r task part. curve_comes r old new part I first last given (asked_curve r task) same_files same_input reply replied
+    curve_replied (Err h) replied = tt
+
+    pub curve_halted : (result : Result Reply Halt) → IfErr result (IsCurveUnanswered I first last given old.output new.output) → IfErr result (λ h. InSpans Asks old new (λ r. ComesToHalt r new.output h))
+    curve_halted (Ok reply) halted = tt
+    curve_halted (Err h) halted = λ r task part. curve_halts r old new part I first last given (asked_curve r task) same_files same_input h halted
+
+    pub curve_kept : InSpans Asks old new KeepsAll
+    curve_kept = λ r task part. curve_keeps r old new part I first last given (asked_curve r task) same_files same_input
 
 -- what a part of a run spans behind a first piece of it that changes no file
 pub spans_rest : (r : Run) (old mid new : Ports) → Spans r old new → mid.shelf.files ≡ old.shelf.files → NeverFalls old.shelf.reads mid.shelf.reads → NeverFalls old.shelf.writes mid.shelf.writes
@@ -130,7 +146,7 @@ module _ (seed m n : ℕ) (at : Ports) where
   abbrev AsksTrial : Run → Type 0
   AsksTrial r = command_of r.words ≡ Some (OnTrial seed m n)
 
-  pub trial_replied : (reply : Reply) → stop_of reply ≡ None → ((r : Run) → AsksTrial r → IsCause r reply) → InSpans AsksTrial at at (λ r. ComesTo r at.output reply)
+  pub trial_replied : (reply : Reply) → row_end reply ≡ None → ((r : Run) → AsksTrial r → IsCause r reply) → InSpans AsksTrial at at (λ r. ComesTo r at.output reply)
   trial_replied reply none cause = λ r words_are part. unread_comes r at at part refl refl refl reply (cause r words_are) none
 
   pub trial_halted : InSpans AsksTrial at at (λ r. RunsOut r at.output)

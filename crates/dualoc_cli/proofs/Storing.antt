@@ -20,13 +20,13 @@ use Rattle.dualoc_cli.proofs.Causes.{rose_over}
 use Rattle.dualoc_cli.proofs.Apart.{apart}
 
 -- a file holds what was put into it, and keeps it when another is written
-held_now : (told : Option Files) (name bytes : List ℕ) → MayHold (with_file told name bytes) name bytes
+pub held_now : (told : Option Files) (name bytes : List ℕ) → MayHold (with_file told name bytes) name bytes
 held_now None name bytes = tt
 held_now (Some files) name bytes =
     get-insert nat_list_cmp_total files name bytes name
     ∙ ap (λ b. cond b (Some bytes) (get files name)) ((eq_by_cmp_equiv nat_list_cmp_total).refl name)
 
-held_still : (told : Option Files) (name bytes other more : List ℕ) → bytes_eq name other ≡ false → MayHold told name bytes → MayHold (with_file told other more) name bytes
+pub held_still : (told : Option Files) (name bytes other more : List ℕ) → bytes_eq name other ≡ false → MayHold told name bytes → MayHold (with_file told other more) name bytes
 held_still None name bytes other more apart held = tt
 held_still (Some files) name bytes other more apart held =
     get-insert nat_list_cmp_total files other more name

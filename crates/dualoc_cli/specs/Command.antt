@@ -10,6 +10,8 @@ use Rattle.instance_forms.specs.Forms.{InstanceFile, instance_file, file_of, cap
 use Rattle.dualoc_cli.specs.declared.limits.TheConstants.{MAX_SEED}
 use Rattle.dualoc_cli.specs.declared.options.Options.{Options}
 use Rattle.dualoc_cli.specs.declared.options.Takes.{Takes}
+use Rattle.dualoc_cli.specs.declared.words.CostAt.{CostAt}
+use Rattle.dualoc_cli.specs.declared.words.CostAt.TheVariants.{Site, Lane}
 
 -- the names of the files in which the result of a search is left: its plan, and the certificate that shows it
 pub record ResultFiles : Type 0 where
@@ -18,7 +20,9 @@ pub record ResultFiles : Type 0 where
 
 -- what is to be done with the instance: to solve it by a walk over all sets of sites, to solve it by a search within a budget of nodes,
 -- or a budget of its own where none is given, to show the duals to which an ascent raises them, to check the certificate in a file against it,
--- to convert it: to write it to a new file in the suite's own form, or to hold a session on it
+-- to convert it: to write it to a new file in the suite's own form, to hold a session on it, to show how far a cost may move while the certificate in a file still proves its plan optimal,
+-- to seek a center of it, where a plan may have to open just so many sites, and to leave beside its result a new file with the instance that the certificate speaks of, or to print what each
+-- number of sites costs, from the first to the last
 pub data Job : Type 0 where
   SolveShort : Job
   SolveLong : (into : ResultFiles) (given : Option ℕ) → Job
@@ -26,6 +30,9 @@ pub data Job : Type 0 where
   Check : (certificate : List ℕ) → Job
   Convert : (new : List ℕ) → Job
   Session : Job
+  ShowRange : (certificate : List ℕ) (at : CostAt) → Job
+  Center : (into : ResultFiles) (new : List ℕ) (given count : Option ℕ) → Job
+  Curve : (first last : ℕ) (given : Option ℕ) → Job
 
 -- what words ask for: a job on the instance in a file, or to search the instance of a seed, so many sites and so many customers
 pub data Command : Type 0 where
@@ -50,9 +57,20 @@ plain_count word = printed_count word (count_of word)
 abbrev pub budget_of : List ℕ → Option ℕ
 budget_of word = if bytes_eq (take 7 word) (codes "budget=") then plain_count (drop 7 word) else None
 
+-- the number of open sites that a word is: a count without a leading zero, no more than an instance may have
+abbrev pub few_sites : ℕ → Option ℕ
+few_sites n = if nat_le n MAX_SITES then Some n else None
+
+abbrev pub sites_count : List ℕ → Option ℕ
+sites_count word = option_and_then few_sites (plain_count word)
+
+-- the number of open sites that an option gives
+abbrev pub count_in : List ℕ → Option ℕ
+count_in word = if bytes_eq (take 6 word) (codes "count=") then sites_count (drop 6 word) else None
+
 -- the options with these numbers, where they are there
-abbrev pub options_with : Option ℕ → Option ℕ → Options
-options_with budget capacity = record { budget = budget; capacity = capacity }
+abbrev pub options_with : Option ℕ → Option ℕ → Option ℕ → Options
+options_with budget count capacity = record { budget = budget; count = count; capacity = capacity }
 
 -- what an option gives, where the command takes it and it isn't there yet
 abbrev pub given_once : {A : Type 0} (taken : Bool) → Option A → Option A → Option A
@@ -62,8 +80,9 @@ given_once _ _ _ = None
 -- the options with the one that a word is; every command takes a capacity
 abbrev pub with_option : Takes → List ℕ → Options → Option Options
 with_option takes word old =
-    option_or (option_map (λ n. options_with (Some n) old.capacity) (given_once takes.budget old.budget (budget_of word)))
-    (option_map (λ a. options_with old.budget (Some a)) (given_once true old.capacity (capacity_of word)))
+    option_or (option_map (λ n. options_with (Some n) old.count old.capacity) (given_once takes.budget old.budget (budget_of word)))
+    (option_or (option_map (λ p. options_with old.budget (Some p) old.capacity) (given_once takes.count old.count (count_in word)))
+    (option_map (λ a. options_with old.budget old.count (Some a)) (given_once true old.capacity (capacity_of word))))
 
 -- the options with those that the words are
 unfoldable pub options_from : Takes → Options → List (List ℕ) → Option Options
@@ -72,14 +91,17 @@ options_from takes old (word ∷ words) = option_and_then (λ o. options_from ta
 
 -- the options that the words behind the names are: each is one that the command takes, none is there twice, and they come in any order
 abbrev pub options_of : Takes → List (List ℕ) → Option Options
-options_of takes words = options_from takes (options_with None None) words
+options_of takes words = options_from takes (options_with None None None) words
 
 -- what commands take
 abbrev pub no_budget : Takes
-no_budget = record { budget = false }
+no_budget = record { budget = false; count = false }
 
 abbrev pub a_budget : Takes
-a_budget = record { budget = true }
+a_budget = record { budget = true; count = false }
+
+abbrev pub a_budget_and_count : Takes
+a_budget_and_count = record { budget = true; count = true }
 
 -- a job on that file
 abbrev pub job_on : List ℕ → List ℕ → Job → Option ℕ → Option Command
@@ -124,6 +146,28 @@ unfoldable pub session_command : List (List ℕ) → Option Command
 session_command (form ∷ file ∷ options) = on_files form file [] no_budget (λ o. Session) options
 session_command _ = None
 
+-- the range of this cost is asked for, by the certificate in a file
+abbrev pub range_on : List ℕ → List ℕ → List ℕ → List (List ℕ) → CostAt → Option Command
+range_on form file certificate options at = on_files form file (certificate ∷ []) no_budget (λ o. ShowRange certificate at) options
+
+-- the words behind `site`: the site's id, and options
+unfoldable pub fixed_range_command : List ℕ → List ℕ → List ℕ → List (List ℕ) → Option Command
+fixed_range_command form file certificate (site ∷ options) = option_and_then (λ s. range_on form file certificate options (Site s)) (plain_count site)
+fixed_range_command form file certificate _ = None
+
+-- the words behind `lane`: the ids of the site and the customer, and options
+unfoldable pub lane_range_command : List ℕ → List ℕ → List ℕ → List (List ℕ) → Option Command
+lane_range_command form file certificate (site ∷ customer ∷ options) =
+    option_and_then (λ s. option_and_then (λ c. range_on form file certificate options (Lane s c)) (plain_count customer)) (plain_count site)
+lane_range_command form file certificate _ = None
+
+-- the words behind `range`
+unfoldable pub range_command : List (List ℕ) → Option Command
+range_command (form ∷ file ∷ certificate ∷ kind ∷ words) =
+    if bytes_eq kind (codes "site") then fixed_range_command form file certificate words
+    else (if bytes_eq kind (codes "lane") then lane_range_command form file certificate words else None)
+range_command _ = None
+
 -- a seed, a number of sites and a number of customers within the limits
 abbrev pub are_trial_numbers : ℕ → ℕ → ℕ → Bool
 are_trial_numbers seed m n = nat_le seed MAX_SEED && (nat_le 1 m && nat_le m MAX_SITES) && (nat_le 1 n && nat_le n MAX_CUSTOMERS) && nat_le (m * n) MAX_LANES
@@ -137,6 +181,22 @@ trial_command (seed ∷ m ∷ n ∷ []) =
     option_and_then (λ s. option_and_then (λ sites. option_and_then (λ customers. trial_of s sites customers) (plain_count n)) (plain_count m)) (plain_count seed)
 trial_command _ = None
 
+-- the words behind `center`
+unfoldable pub center_command : List (List ℕ) → Option Command
+center_command (form ∷ file ∷ plan ∷ certificate ∷ new ∷ options) =
+    on_files form file (plan ∷ certificate ∷ new ∷ []) a_budget_and_count (λ o. Center (into_files plan certificate) new o.budget o.count) options
+center_command _ = None
+
+-- a curve from one number of sites to another that is no less
+abbrev pub curve_of : List ℕ → List ℕ → ℕ → ℕ → List (List ℕ) → Option Command
+curve_of form file first last options = if nat_le first last then on_files form file [] a_budget (λ o. Curve first last o.budget) options else None
+
+-- the words behind `curve`
+unfoldable pub curve_command : List (List ℕ) → Option Command
+curve_command (form ∷ file ∷ first ∷ last ∷ options) =
+    option_and_then (λ a. option_and_then (λ b. curve_of form file a b options) (sites_count last)) (sites_count first)
+curve_command _ = None
+
 -- the command of the words, if they are those of one
 abbrev pub command_of : List (List ℕ) → Option Command
 command_of [] = None
@@ -145,4 +205,7 @@ command_of (verb ∷ words) =
     else (if bytes_eq verb (codes "duals") then duals_command words
     else (if bytes_eq verb (codes "check") then check_command words
     else (if bytes_eq verb (codes "convert") then convert_command words
-    else (if bytes_eq verb (codes "session") then session_command words else (if bytes_eq verb (codes "trial") then trial_command words else None)))))
+    else (if bytes_eq verb (codes "session") then session_command words
+    else (if bytes_eq verb (codes "trial") then trial_command words
+    else (if bytes_eq verb (codes "range") then range_command words
+    else (if bytes_eq verb (codes "center") then center_command words else (if bytes_eq verb (codes "curve") then curve_command words else None))))))))

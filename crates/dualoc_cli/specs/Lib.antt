@@ -1,6 +1,9 @@
+pub mod Center
 pub mod Check
 pub mod Command
 pub mod Convert
+pub mod Curve
+pub mod Drawing
 pub mod Due
 pub mod Duals
 pub mod Reply
@@ -12,3 +15,4 @@ pub mod Status
 pub mod Step
 pub mod Talk
 pub mod Trial
+pub mod Range

@@ -10,20 +10,25 @@ use Rattle.plan_meaning.specs.PlanFault.{fault_name}
 use Rattle.fixed_cost.specs.Claim.{claim_text}
 use Rattle.report.specs.PlanText.{plan_text_of}
 use Rattle.report.specs.DualsText.{duals_text_of}
+use Rattle.center_text.specs.declared.claim.RadiusClaim.TheVariants as radius
+use Rattle.center_text.specs.CenterText.{radius_text}
 use Rattle.certificate_lines.specs.Kind.{cert_kind_name}
 use Rattle.certificate_check.specs.declared.verdict.Why.{Why}
 use Rattle.certificate_check.specs.declared.verdict.Why.TheVariants.{PlanRefused, CostDiffers, LeafOpen}
 use Rattle.certificate_check.specs.declared.verdict.Verdict.TheVariants.{Yes, No}
 use Rattle.dualoc_cli.specs.declared.status.Status.{Status}
 use Rattle.dualoc_cli.specs.declared.status.Status.TheVariants.{Done, Infeasible, Bracket, CheckNo, Usage, BadInput, ReadFault, WriteFault, TooLarge}
+use Rattle.dualoc_cli.specs.declared.status.Status.TheVariants as statuses
 use Rattle.dualoc_cli.specs.declared.reply.Reply.{Reply}
 use Rattle.dualoc_cli.specs.declared.reply.Reply.TheVariants.{NoCommand, Failed, Refused, Reached}
 use Rattle.dualoc_cli.specs.declared.reply.Port.{Port}
 use Rattle.dualoc_cli.specs.declared.reply.Port.TheVariants as port
 use Rattle.dualoc_cli.specs.declared.reply.Refusal.{Refusal}
-use Rattle.dualoc_cli.specs.declared.reply.Refusal.TheVariants.{LongInstance, Faulty, ManySites, LargeBudget, LongCertificate, LongLine, LongInput}
+use Rattle.dualoc_cli.specs.declared.reply.Refusal.TheVariants.{LongInstance, Faulty, ManySites, LargeBudget, LongCertificate, LongLine, LongInput, NoSite, NoCustomer, NoLane}
 use Rattle.dualoc_cli.specs.declared.reply.Outcome.{Outcome}
-use Rattle.dualoc_cli.specs.declared.reply.Outcome.TheVariants.{Optimum, Searched, Tried, Ascent, Misspelt, Judged, Converted, Ended}
+use Rattle.dualoc_cli.specs.declared.reply.Outcome.TheVariants.{Optimum, Searched, Tried, Ascent, Misspelt, Judged, Converted, Ended, Ranged, NoOptimalClaim, Centered, Drawn}
+use Rattle.dualoc_cli.specs.declared.reply.CenterEnd.{CenterEnd}
+use Rattle.dualoc_cli.specs.declared.reply.CenterEnd.TheVariants as center_ends
 
 -- Statuses.
 
@@ -40,6 +45,7 @@ failed_status port.Certificate = ReadFault
 failed_status port.Result = WriteFault
 failed_status port.New = WriteFault
 failed_status port.Input = ReadFault
+failed_status port.Center = WriteFault
 
 abbrev pub refused_status : Refusal → Status
 refused_status LongInstance = TooLarge
@@ -49,6 +55,15 @@ refused_status LargeBudget = TooLarge
 refused_status LongCertificate = TooLarge
 refused_status LongLine = TooLarge
 refused_status LongInput = TooLarge
+refused_status NoSite = statuses.Refused
+refused_status NoCustomer = statuses.Refused
+refused_status NoLane = statuses.Refused
+
+-- of what a search for a center came to
+abbrev pub center_status : CenterEnd → Status
+center_status (center_ends.Best radius) = Done
+center_status center_ends.Infeasible = Infeasible
+center_status (center_ends.Open low high at nodes budget) = Bracket
 
 abbrev pub outcome_status : Outcome → Status
 outcome_status (Optimum I P cost) = Done
@@ -60,6 +75,10 @@ outcome_status (Judged (Yes claim)) = Done
 outcome_status (Judged (No line why)) = CheckNo
 outcome_status (Converted m n) = Done
 outcome_status Ended = Done
+outcome_status (Ranged range) = Done
+outcome_status NoOptimalClaim = CheckNo
+outcome_status (Centered end) = center_status end
+outcome_status Drawn = Done
 
 abbrev pub status_of : Reply → Status
 status_of NoCommand = Usage
@@ -84,12 +103,20 @@ spent_text claim budget = []
 abbrev pub result_line : Claim → ℕ → ℕ → List ℕ
 result_line claim nodes budget = claim_text claim ++ codes " nodes " ++ decimal nodes ++ spent_text claim budget ++ codes "\n"
 
+-- the line of what a search for a center came to; of a bracket also the cost below which the last probe asked for a plan
+abbrev pub center_line : CenterEnd → List ℕ
+center_line (center_ends.Best radius) = codes "center " ++ micro_text radius ++ codes "\n"
+center_line center_ends.Infeasible = codes "infeasible\n"
+center_line (center_ends.Open low high at nodes budget) =
+    radius_text (radius.Bracket low high) ++ codes " at " ++ micro_text at ++ codes " nodes " ++ decimal nodes ++ codes " budget " ++ decimal budget ++ codes "\n"
+
 abbrev pub failed_text : Port → List ℕ
 failed_text port.Instance = codes "read fault\n"
 failed_text port.Certificate = codes "read fault\n"
 failed_text port.Result = codes "write fault\n"
 failed_text port.New = codes "write fault\n"
 failed_text port.Input = codes "read fault\n"
+failed_text port.Center = codes "write fault\n"
 
 abbrev pub refused_text : Refusal → List ℕ
 refused_text LongInstance = codes "too large instance\n"
@@ -99,6 +126,9 @@ refused_text LargeBudget = codes "too large budget\n"
 refused_text LongCertificate = codes "too large certificate\n"
 refused_text LongLine = codes "too large line\n"
 refused_text LongInput = codes "too large input\n"
+refused_text NoSite = codes "refused NoSite\n"
+refused_text NoCustomer = codes "refused NoCustomer\n"
+refused_text NoLane = codes "refused NoLane\n"
 
 abbrev pub outcome_text : Outcome → List ℕ
 outcome_text (Optimum I P cost) = plan_text_of I (Optimal cost) (Some P)
@@ -110,6 +140,10 @@ outcome_text (Judged (Yes claim)) = codes "yes " ++ claim_text claim ++ codes "\
 outcome_text (Judged (No line why)) = no_text line why
 outcome_text (Converted m n) = codes "converted sites " ++ decimal m ++ codes " customers " ++ decimal n ++ codes "\n"
 outcome_text Ended = []
+outcome_text (Ranged range) = codes "range " ++ micro_text range.least ++ codes " " ++ micro_text range.greatest ++ codes "\n"
+outcome_text NoOptimalClaim = codes "no OptimalClaim\n"
+outcome_text (Centered end) = center_line end
+outcome_text Drawn = []
 
 abbrev pub text_of : Reply → List ℕ
 text_of NoCommand = codes "usage\n"

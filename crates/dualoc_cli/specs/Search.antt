@@ -17,16 +17,24 @@ use Rattle.report.specs.PlanText.{plan_text_of}
 use Rattle.certificate_lines.specs.Text.{certificate_text}
 use Rattle.dualoc_cli.specs.declared.status.Status.{Status}
 use Rattle.dualoc_cli.specs.declared.status.Status.TheVariants.{Done, Infeasible, Bracket}
-use Rattle.dualoc_cli.specs.Command.{ResultFiles, SolveLong}
+use Rattle.dualoc_cli.specs.Command.{ResultFiles, Job, SolveLong, Center, Curve}
 use Rattle.dualoc_cli.specs.Run.{Run, HasTask, FailsToWrite}
 use Rattle.dualoc_cli.specs.Check.{DeservesYes}
 
--- an instance is to be solved with a budget past its greatest
+-- the budget that is given for a job of searches
+abbrev pub budget_given : Job → Option ℕ
+budget_given (SolveLong into given) = given
+budget_given (Center into new given count) = given
+budget_given (Curve first last given) = given
+budget_given job = None
+
+-- an instance is to be searched with a budget past its greatest
 pub record HasLargeBudget (r : Run) : Type 0 where
   pub instance : Instance
-  pub into : ResultFiles
+  pub job : Job
   pub budget : ℕ
-  pub task : HasTask r (SolveLong into (Some budget)) instance
+  pub task : HasTask r job instance
+  pub gives : budget_given job ≡ Some budget
   pub large : max_budget instance < budget
 
 -- the instance is to be solved with this budget, and the result to be left in these files

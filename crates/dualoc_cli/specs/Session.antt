@@ -9,7 +9,7 @@ use Rattle.dualoc_cli.specs.declared.reply.Reply.{Reply}
 use Rattle.dualoc_cli.specs.declared.reply.Reply.TheVariants.{Failed, Refused, Reached}
 use Rattle.dualoc_cli.specs.declared.reply.Port.TheVariants as port
 use Rattle.dualoc_cli.specs.declared.reply.Refusal.TheVariants.{LongLine, LongInput}
-use Rattle.dualoc_cli.specs.declared.reply.Outcome.TheVariants.{Ended}
+use Rattle.dualoc_cli.specs.declared.reply.Outcome.TheVariants.{Ended, Drawn}
 use Rattle.dualoc_cli.specs.Command.{Session}
 use Rattle.dualoc_cli.specs.Run.{Run, HasTask}
 
@@ -29,13 +29,19 @@ StopsAt r stop = (row : List ℕ) × IsSessionRow r stop row
 abbrev pub HoldsSession : Run → Type 0
 HoldsSession r = (stop : Stop) × StopsAt r stop
 
--- how a session stopped that ends with this reply; none where the reply is that of another command, or comes before a line of the input is read
-abbrev pub stop_of : Reply → Option Stop
-stop_of (Failed port.Input) = Some AtFailedRead
-stop_of (Refused LongLine) = Some AtLongLine
-stop_of (Refused LongInput) = Some AtLongInput
-stop_of (Reached Ended) = Some AtEnd
-stop_of reply = None
+-- what ends replies in a row: a session that stopped so, or the last line of a curve
+pub data RowEnd : Type 0 where
+  AfterSession : Stop → RowEnd
+  AfterCurve : RowEnd
+
+-- what ended the replies in a row before this reply; none where there are none: it is the reply of another command, or comes before a line of the input is read or a line of a curve is printed
+abbrev pub row_end : Reply → Option RowEnd
+row_end (Failed port.Input) = Some (AfterSession AtFailedRead)
+row_end (Refused LongLine) = Some (AfterSession AtLongLine)
+row_end (Refused LongInput) = Some (AfterSession AtLongInput)
+row_end (Reached Ended) = Some (AfterSession AtEnd)
+row_end (Reached Drawn) = Some AfterCurve
+row_end reply = None
 
 -- the status of a session that stopped so, all of its text printed
 abbrev pub stop_status : Stop → Status

@@ -1,11 +1,12 @@
 -- For private functions alone: no public contract cites this page.
 -- What the parts of a run say of it.
-use Rattle.std.specs.Prelude.{◌≡◌, ◌⊎◌, ℕ, ◌<◌, List, [], ◌++◌, length, take}
+use Rattle.std.specs.Prelude.{◌≡◌, ◌⊎◌, ℕ, ◌+◌, ◌<◌, ◌≤◌, List, [], ◌++◌, length, take, IfSome}
 use Rattle.shelf_port.specs.Files.{NeverFalls, Rose}
 use Rattle.shelf_port.specs.Streams.{with_back, RefusedLast}
 use Rattle.shelf_port.specs.Ports.{ShelfState, SinkState, Ports}
 use Rattle.shelf_port.specs.declared.fault.SinkFault.{SinkFault}
 use Rattle.shelf_port.specs.declared.fault.SinkFault.TheVariants as sink
+use Rattle.location_terms.specs.declared.limits.TheConstants.{MAX_SITES}
 use Rattle.location_terms.specs.Instance.{AreSizes}
 use Rattle.location_terms.specs.Plan.{IsFeasible}
 use Rattle.instance_store.specs.Small.{IsSmall}
@@ -22,6 +23,8 @@ use Rattle.dualoc_cli.specs.declared.words.Command as told
 use Rattle.dualoc_cli.specs.declared.words.Command.TheVariants as words_in_memory
 use Rattle.dualoc_cli.specs.declared.words.FileJob as told_file_job
 use Rattle.dualoc_cli.specs.declared.words.TrialNumbers as told_numbers
+use Rattle.dualoc_cli.specs.declared.words.CenterTask as told_center
+use Rattle.dualoc_cli.specs.declared.words.CurveTask as told_curve
 use Rattle.dualoc_cli.specs.declared.words.Task as told_task
 use Rattle.dualoc_cli.specs.declared.words.Job as told_job
 use Rattle.dualoc_cli.specs.declared.words.ResultFiles as told_result
@@ -29,9 +32,10 @@ use Rattle.dualoc_cli.specs.declared.words.Task.TheVariants as in_memory
 use Rattle.dualoc_cli.specs.declared.words.Job.TheVariants as job_in_memory
 use Rattle.dualoc_cli.specs.declared.halt.Halt.{Halt}
 use Rattle.dualoc_cli.specs.declared.halt.Halt.TheVariants as halt
-use Rattle.dualoc_cli.specs.Command.{ResultFiles, into_files, Job, SolveShort, SolveLong, ShowDuals, Check, Convert, Session, Command, OnFile, OnTrial, command_of}
+use Rattle.dualoc_cli.specs.Command.{ResultFiles, into_files, Job, SolveShort, SolveLong, ShowDuals, Check, Convert, Session, ShowRange, Command, OnFile, OnTrial, Center, Curve, command_of}
 use Rattle.dualoc_cli.specs.Run.{Run}
 use Rattle.dualoc_cli.specs.Session.{IsSessionRow}
+use Rattle.dualoc_cli.specs.Curve.{IsCurveLine, IsCurveRow}
 use Rattle.dualoc_cli.specs.Due.{IsCause, IsInRow, IsUntouched, ReadsNoLine, Leaves, KeepsInput}
 use Rattle.dualoc_cli.specs.Talk.{GainsWhole}
 use Rattle.whatif_session.specs.Run.{Stop, AtRefusedWrite, RepliesLast}
@@ -40,16 +44,25 @@ use Rattle.whatif_session.specs.Run.{Stop, AtRefusedWrite, RepliesLast}
 abbrev pub asked_result : told_result.ResultFiles → ResultFiles
 asked_result into = into_files into.plan.now into.certificate.now
 
+abbrev pub asked_center : told_center.CenterTask → Job
+asked_center asks = Center (asked_result asks.into) asks.new.now asks.given asks.count
+
+abbrev pub asked_curve : told_curve.CurveTask → Job
+asked_curve asks = Curve asks.first asks.last asks.given
+
 abbrev pub asked_task : told_task.Task → Job
 asked_task in_memory.SolveShort = SolveShort
 asked_task (in_memory.SolveLong into given) = SolveLong (asked_result into) given
 asked_task in_memory.ShowDuals = ShowDuals
 asked_task (in_memory.Check certificate) = Check certificate.now
 asked_task (in_memory.Convert new) = Convert new.now
+asked_task (in_memory.ShowRange certificate at) = ShowRange certificate.now at
+asked_task (in_memory.Center asks) = asked_center asks
 
 abbrev pub asked_job : told_job.Job → Job
 asked_job (job_in_memory.Once task) = asked_task task
 asked_job job_in_memory.Session = Session
+asked_job (job_in_memory.Curve asks) = asked_curve asks
 
 abbrev pub asked_on_file : told_file_job.FileJob → Command
 asked_on_file asks = OnFile (file_in asks.file) (asked_job asks.job)
@@ -61,10 +74,17 @@ abbrev pub asked : told.Command → Command
 asked (words_in_memory.OnFile asks) = asked_on_file asks
 asked (words_in_memory.OnTrial numbers) = asked_trial numbers
 
--- what is so of every command: what it gives for the word `capacity` is an amount, and the sets of sites are walked over in files of the form `ufl` alone
+-- the numbers of open sites that a job names are no more than an instance may have, and the first one of a curve is not above the last
+abbrev pub HasFewCounts : Job → Type 0
+HasFewCounts (Center into new given count) = IfSome count (λ n. n ≤ MAX_SITES)
+HasFewCounts (Curve first last given) = (first ≤ last) × (last ≤ MAX_SITES)
+HasFewCounts job = Unit {0}
+
+-- what is so of every command: what it gives for the word `capacity` is an amount, the sets of sites are walked over in files of the form `ufl` alone, and its numbers of open sites are small
 pub record IsSuited (file : InstanceFile) (job : Job) : Type 0 where
   pub small : IsSmall file.given
   pub short : job ≡ SolveShort → file.form ≡ Ufl
+  pub few : HasFewCounts job
 
 -- what is so of what words ask for: a trial has numbers of sites and of customers within the limits
 abbrev pub IsSound : Command → Type 0
@@ -106,10 +126,10 @@ pub record ComesTo (r : Run) (output : SinkState) (reply : Reply) : Type 0 where
 -- memory runs out in it
 pub record RunsOut (r : Run) (output : SinkState) : Type 0 where
   pub row : List ℕ
-  pub row_is : ((row ≡ []) × ReadsNoLine r (command_of r.words)) ⊎ ((stop : Stop) × IsSessionRow r stop row)
+  pub row_is : ((row ≡ []) × ReadsNoLine r (command_of r.words)) ⊎ (((stop : Stop) × IsSessionRow r stop row) ⊎ IsCurveRow r row)
   pub gains : GainsWhole row r.before.output output
 
--- a reply in a row is refused
+-- a reply in a row of a session is refused
 pub record IsStopped (r : Run) (output : SinkState) (fault : SinkFault) : Type 0 where
   pub done : List ℕ
   pub reply : List ℕ
@@ -121,9 +141,22 @@ pub record IsStopped (r : Run) (output : SinkState) (fault : SinkFault) : Type 0
   pub stopped : RefusedLast r.before.output.refusals output.refusals
   pub failed : fault ≡ sink.Failed → Rose r.before.output.faults output.faults
 
+-- a line of a curve is refused
+pub record IsCurveStopped (r : Run) (output : SinkState) (fault : SinkFault) : Type 0 where
+  pub done : List ℕ
+  pub line : List ℕ
+  pub row_is : IsCurveRow r done
+  pub asked_on : row_is.first + row_is.counts ≤ row_is.last
+  pub next : IsCurveLine row_is.instance row_is.budget (row_is.first + row_is.counts) line
+  pub len : ℕ
+  pub front : len < length line
+  pub gained : output.written ≡ with_back r.before.output.written (done ++ take len line)
+  pub stopped : RefusedLast r.before.output.refusals output.refusals
+  pub failed : fault ≡ sink.Failed → Rose r.before.output.faults output.faults
+
 abbrev pub ComesToHalt : Run → SinkState → Halt → Type 0
 ComesToHalt r output halt.NoMemory = RunsOut r output
-ComesToHalt r output (halt.Refused fault) = IsStopped r output fault
+ComesToHalt r output (halt.Refused fault) = IsStopped r output fault ⊎ IsCurveStopped r output fault
 
 -- the status of a run whose output refused a reply in a row for this cause
 abbrev pub cut_status : SinkFault → Status

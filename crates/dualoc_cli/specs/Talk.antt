@@ -19,7 +19,7 @@ use Rattle.whatif_session.specs.Calls.{IsLeftOver}
 use Rattle.dualoc_cli.specs.declared.reply.Reply.{Reply}
 use Rattle.dualoc_cli.specs.declared.halt.Halt.{Halt}
 use Rattle.dualoc_cli.specs.declared.halt.Halt.TheVariants as halt
-use Rattle.dualoc_cli.specs.Session.{stop_of}
+use Rattle.dualoc_cli.specs.Session.{AfterSession, row_end}
 
 -- What was read.
 
@@ -116,7 +116,7 @@ pub record IsHeld (limits : InputLimits) (I : Instance) (from to : Ports) (stop 
 
 -- a session ended between these ports, with this reply to follow
 abbrev pub IsEnded : InputLimits → Instance → Ports → Ports → Reply → Type 0
-IsEnded limits I from to reply = (stop : Stop) × (stop_of reply ≡ Some stop) × IsHeld limits I from to stop
+IsEnded limits I from to reply = (stop : Stop) × (row_end reply ≡ Some (AfterSession stop)) × IsHeld limits I from to stop
 
 -- a reply in a row was refused
 pub record IsCut (limits : InputLimits) (I : Instance) (from to : Ports) (fault : SinkFault) : Type 0 where

@@ -5,13 +5,16 @@
 //! page of its own beside it and a module here.
 #![tactic(auto)]
 
+mod center;
 mod check;
 mod convert;
+mod curve;
 mod duals;
 mod halt;
 mod limits;
 mod options;
 mod program;
+mod range;
 mod reply;
 mod search;
 mod session;

@@ -1,15 +1,17 @@
 //! The options behind the names of a command line.
 ghost use Rattle.std.specs.Prelude.{◌≡◌, map, string_bytes};
-ghost use Rattle.dualoc_cli.specs.Command.{budget_of, plain_count, given_once, with_option, options_from, options_of};
+ghost use Rattle.dualoc_cli.specs.Command.{budget_of, count_in, few_sites, sites_count, plain_count, given_once, with_option, options_from, options_of};
 
 use fixed_cost::read_count;
 use instance_forms::capacity;
 use itoa::Buffer;
+use location_terms::MAX_SITES;
 
 /// Which options a command takes beside `capacity`, which goes with a file of the form `cap`.
 #[derive(Clone, Copy)]
 pub struct Takes {
     pub budget: bool,
+    pub count: bool,
 }
 
 /// What the options of a command line give.
@@ -17,6 +19,8 @@ pub struct Takes {
 pub struct Options {
     /// The number of `budget=N`, where it is there.
     pub budget: Option<u32>,
+    /// The number of `count=P`, where it is there.
+    pub count: Option<u32>,
     /// The amount of `capacity=A`, in millionths, where it is there.
     pub capacity: Option<u64>,
 }
@@ -29,6 +33,7 @@ impl Options {
     {
         let none = Options {
             budget: None,
+            count: None,
             capacity: None,
         };
         none.more(takes, words)
@@ -52,12 +57,21 @@ impl Options {
         if let Some(budget) = given_once(takes.budget, self.budget, budget(word)) {
             return Some(Options {
                 budget: Some(budget),
+                count: self.count,
+                capacity: self.capacity,
+            });
+        }
+        if let Some(count) = given_once(takes.count, self.count, count(word)) {
+            return Some(Options {
+                budget: self.budget,
+                count: Some(count),
                 capacity: self.capacity,
             });
         }
         let capacity = Some(given_once(true, self.capacity, capacity(word))?);
         Some(Options {
             budget: self.budget,
+            count: self.count,
             capacity,
         })
     }
@@ -79,6 +93,33 @@ fn budget(option: &str) -> Option<u32>
 {
     let digits = option.as_bytes().strip_prefix(b"budget=")?;
     number(digits)
+}
+
+// The number of open sites that an option gives, if it is one.
+fn count(option: &str) -> Option<u32>
+    ensures { result ≡ count_in option.now }
+{
+    let digits = option.as_bytes().strip_prefix(b"count=")?;
+    sites(digits)
+}
+
+/// The number of open sites that a word is, if it is just how that number is printed, and no more than an
+/// instance may have sites.
+pub fn sites(digits: &[u8]) -> Option<u32>
+    ensures { result ≡ sites_count digits.now }
+{
+    few_sites(number(digits)?)
+}
+
+// A number of sites, if it is no more than an instance may have.
+fn few_sites(count: u32) -> Option<u32>
+    ensures { result ≡ few_sites count }
+{
+    if count as usize <= MAX_SITES {
+        Some(count)
+    } else {
+        None
+    }
 }
 
 /// The number that a word is, if it is just how that number is printed.

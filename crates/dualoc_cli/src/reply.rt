@@ -1,5 +1,5 @@
 ghost use Rattle.std.specs.Prelude.{◌≡◌};
-ghost use Rattle.dualoc_cli.specs.Reply.{failed_status, refused_status, outcome_status, status_of, status_of_claim};
+ghost use Rattle.dualoc_cli.specs.Reply.{failed_status, refused_status, outcome_status, status_of, status_of_claim, center_status};
 
 use crate::status::Status;
 use certificate_check::{CertKind, Verdict};
@@ -8,6 +8,7 @@ use fixed_cost::FileFault;
 use instance_store::Instance;
 use location_terms::Claim;
 use plan_meaning::Plan;
+use range_scan::Range;
 
 /// What a run answers. `docs/FORMATS.md` has the texts.
 #[derive(Drop)]
@@ -35,6 +36,8 @@ pub enum Port {
     New,
     /// The input of a session, which was read.
     Input,
+    /// One of the three of a center, which was written.
+    Center,
 }
 
 /// Why an instance is refused, what is asked of it, or the input.
@@ -48,12 +51,19 @@ pub enum Refusal {
     ManySites,
     /// The budget is past the greatest one for the instance.
     LargeBudget,
-    /// Nothing is decided by the first bytes of the certificate's file, up to the limit, and more follow.
+    /// Nothing is decided by the first bytes of the certificate's file, up to the limit, and more follow; or that
+    /// of a range is longer than the limit.
     LongCertificate,
     /// A line of the input is longer than the limit.
     LongLine,
     /// The input is longer than the limit.
     LongInput,
+    /// The instance lacks the site whose cost is asked about, or that of the lane.
+    NoSite,
+    /// It lacks the customer of the lane.
+    NoCustomer,
+    /// It lacks the lane.
+    NoLane,
 }
 
 /// What a command came to.
@@ -89,6 +99,34 @@ pub enum Outcome {
     },
     /// A session ended with `quit`, or with its input. Its replies are printed.
     Ended,
+    /// The range of a cost.
+    Ranged(Range),
+    /// The certificate shows its claim, and that isn't an optimum.
+    NoOptimalClaim,
+    /// What a search for a center came to. The plan, the certificate and the instance of which that speaks are
+    /// written.
+    Centered(CenterEnd),
+    /// All lines of a curve are printed.
+    Drawn,
+}
+
+/// What a search for a center came to. Radii and costs are in millionths.
+#[derive(Clone, Copy, Debug, PartialEq, Eq)]
+pub enum CenterEnd {
+    /// The best radius is this.
+    Best(u64),
+    /// No plan is feasible.
+    Infeasible,
+    /// The budget was spent: no plan has a radius below `low`, and the plan that is known, where there is one,
+    /// has the radius `high`. Whether there is a plan of a radius below `at` stayed open in a probe whose tree
+    /// has so many nodes.
+    Open {
+        low: u64,
+        high: Option<u64>,
+        at: u64,
+        nodes: u32,
+        budget: u32,
+    },
 }
 
 impl Reply {
@@ -111,7 +149,7 @@ impl Port {
     {
         match self {
             Port::Instance | Port::Certificate | Port::Input => Status::ReadFault,
-            Port::Result | Port::New => Status::WriteFault,
+            Port::Result | Port::New | Port::Center => Status::WriteFault,
         }
     }
 }
@@ -128,6 +166,7 @@ impl Refusal {
             | Refusal::LongCertificate
             | Refusal::LongLine
             | Refusal::LongInput => Status::TooLarge,
+            Refusal::NoSite | Refusal::NoCustomer | Refusal::NoLane => Status::Refused,
         }
     }
 }
@@ -143,8 +182,24 @@ impl Outcome {
             | Outcome::Ascent(..)
             | Outcome::Judged(Verdict::Yes(_))
             | Outcome::Converted { .. }
-            | Outcome::Ended => Status::Done,
-            Outcome::Misspelt(..) | Outcome::Judged(Verdict::No { .. }) => Status::CheckNo,
+            | Outcome::Ended
+            | Outcome::Ranged(_)
+            | Outcome::Drawn => Status::Done,
+            Outcome::Misspelt(..) | Outcome::Judged(Verdict::No { .. }) | Outcome::NoOptimalClaim =>
+                Status::CheckNo,
+            Outcome::Centered(end) => end.status(),
+        }
+    }
+}
+
+impl CenterEnd {
+    fn status(self) -> Status
+        ensures { result ≡ center_status self }
+    {
+        match self {
+            CenterEnd::Best(_) => Status::Done,
+            CenterEnd::Infeasible => Status::Infeasible,
+            CenterEnd::Open { .. } => Status::Bracket,
         }
     }
 }

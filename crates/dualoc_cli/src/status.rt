@@ -24,6 +24,8 @@ pub enum Status {
     TooLarge,
     /// Memory ran out.
     NoMemory,
+    /// The instance lacks what is asked about.
+    Refused,
 }
 
 impl Status {
@@ -40,9 +42,11 @@ impl Status {
         ensures { result ≡ when_cut self }
     {
         match self {
-            Status::Done | Status::Infeasible | Status::Bracket | Status::CheckNo => {
-                Status::WriteFault
-            }
+            Status::Done
+            | Status::Infeasible
+            | Status::Bracket
+            | Status::CheckNo
+            | Status::Refused => Status::WriteFault,
             _ => self,
         }
     }

@@ -8,12 +8,15 @@ ghost use Rattle.dualoc_cli.specs.Command.{SolveShort, command_of};
 ghost use Rattle.dualoc_cli.specs.Reply.{status_of};
 ghost use Rattle.dualoc_cli.specs.Run.{HasTask};
 ghost use Rattle.dualoc_cli.specs.Due.{KeepsFiles, IsCause, IsRefusalStatus};
-ghost use Rattle.dualoc_cli.specs.Step.{asked, asked_on_file, asked_job, asked_task, IsSuited, IsSound, InRuns, InSpans, ComesTo, ComesToHalt, KeepsAll};
+ghost use Rattle.dualoc_cli.specs.Step.{asked, asked_on_file, asked_job, asked_task, HasFewCounts, IsSuited, IsSound, InRuns, InSpans, ComesTo, ComesToHalt, KeepsAll};
 
+use crate::center::find_center;
 use crate::check::judge;
 use crate::convert::convert;
+use crate::curve::draw_curve;
 use crate::duals::raise;
 use crate::halt::Halt;
+use crate::range::range;
 use crate::reply::{Port, Refusal, Reply};
 use crate::search::search;
 use crate::session::session;
@@ -158,7 +161,8 @@ fn work<H: Shelf, I: Source, O: Sink>(
     input: &mut I,
     out: &mut O,
 ) -> Result<Reply, Halt>
-    requires { asked_job job ≡ SolveShort → IsPlain inst }
+    requires plain { asked_job job ≡ SolveShort → IsPlain inst }
+    requires few { HasFewCounts (asked_job job) }
     ensures replied { IfOk result (λ reply. InSpans (λ r. HasTask r (asked_job job.entry) inst)
         (ports_of (shelf_state (H.files shelf.old) (H.read_faults shelf.old) (H.write_faults shelf.old))
         (source_state (I.left input.old) (I.faults input.old))
@@ -187,6 +191,7 @@ fn work<H: Shelf, I: Source, O: Sink>(
     match job {
         Job::Once(task) => Ok(done(alloc, task, inst, shelf)?),
         Job::Session => session(alloc, inst, shelf, input, out),
+        Job::Curve(asks) => draw_curve(alloc, &inst, asks, out),
     }
 }
 
@@ -197,7 +202,8 @@ fn done<H: Shelf>(
     inst: Instance,
     shelf: &mut H,
 ) -> Result<Reply, NoMemory>
-    requires { asked_task task ≡ SolveShort → IsPlain inst }
+    requires plain { asked_task task ≡ SolveShort → IsPlain inst }
+    requires few { HasFewCounts (asked_task task) }
     ensures cause { IfOk result (λ reply. InRuns (λ r. HasTask r (asked_task task.entry) inst)
         (shelf_state (H.files shelf.old) (H.read_faults shelf.old) (H.write_faults shelf.old))
         (shelf_state (H.files shelf.new) (H.read_faults shelf.new) (H.write_faults shelf.new))
@@ -216,5 +222,7 @@ fn done<H: Shelf>(
         Task::ShowDuals => raise(alloc, inst),
         Task::Check(certificate) => judge(alloc, &inst, shelf, certificate),
         Task::Convert(new) => convert(alloc, &inst, new, shelf),
+        Task::ShowRange(certificate, at) => range(alloc, &inst, shelf, certificate, at),
+        Task::Center(asks) => find_center(alloc, &inst, asks, shelf),
     }
 }

@@ -1,15 +1,19 @@
 //! The texts of replies.
-ghost use Rattle.std.specs.Prelude.{◌≡◌, IfOk};
-ghost use Rattle.dualoc_cli.specs.Reply.{failed_text, refused_text, outcome_text, text_of, result_line, no_text};
+ghost use Rattle.std.specs.Prelude.{◌≡◌, ◌++◌, IfOk, codes, decimal};
+ghost use Rattle.number_words.specs.Cost.{micro_text};
+ghost use Rattle.center_text.specs.CenterText.{radius_text};
+ghost use Rattle.dualoc_cli.specs.Reply.{failed_text, refused_text, outcome_text, text_of, result_line, center_line, no_text};
 ghost use Rattle.dualoc_cli.specs.Step.{CanBePrinted, IsPrintable};
 
-use crate::reply::{Outcome, Port, Refusal, Reply};
+use crate::reply::{CenterEnd, Outcome, Port, Refusal, Reply};
+use center_text::{RadiusClaim, push_radius};
 use certificate_check::{CertKind, Verdict, Why};
 use fixed_cost::{FileFault, push_claim, push_micro};
 use instance_store::NoMemory;
 use location_terms::Claim;
 use number_words::push_number;
 use plan_meaning::PlanFault;
+use range_scan::Range;
 use report::{duals_text, plan_text};
 use std::alloc::Global;
 
@@ -33,7 +37,7 @@ fn failed(alloc: Global, port: Port) -> Result<Vec<u8>, NoMemory>
 {
     match port {
         Port::Instance | Port::Certificate | Port::Input => line(alloc, b"read fault\n"),
-        Port::Result | Port::New => line(alloc, b"write fault\n"),
+        Port::Result | Port::New | Port::Center => line(alloc, b"write fault\n"),
     }
 }
 
@@ -48,6 +52,9 @@ fn refused(alloc: Global, refusal: Refusal) -> Result<Vec<u8>, NoMemory>
         Refusal::LongCertificate => line(alloc, b"too large certificate\n"),
         Refusal::LongLine => line(alloc, b"too large line\n"),
         Refusal::LongInput => line(alloc, b"too large input\n"),
+        Refusal::NoSite => line(alloc, b"refused NoSite\n"),
+        Refusal::NoCustomer => line(alloc, b"refused NoCustomer\n"),
+        Refusal::NoLane => line(alloc, b"refused NoLane\n"),
     }
 }
 
@@ -74,7 +81,10 @@ fn reached(alloc: Global, outcome: &Outcome) -> Result<Vec<u8>, NoMemory>
         Outcome::Misspelt(kind, number) => misspelt(alloc, *kind, *number),
         Outcome::Judged(verdict) => judged(alloc, *verdict),
         Outcome::Converted { sites, custs } => converted(alloc, *sites, *custs),
-        Outcome::Ended => Ok(Vec::new(alloc)),
+        Outcome::Ranged(range) => ranged(alloc, *range),
+        Outcome::NoOptimalClaim => line(alloc, b"no OptimalClaim\n"),
+        Outcome::Centered(end) => centered(alloc, *end),
+        Outcome::Ended | Outcome::Drawn => Ok(Vec::new(alloc)),
     }
 }
 
@@ -183,4 +193,58 @@ fn converted(alloc: Global, sites: usize, custs: usize) -> Result<Vec<u8>, NoMem
     ensures { IfOk result (λ text. text.items ≡ outcome_text (Outcome.Converted sites custs)) }
 {
     Ok(format!(in alloc; "converted sites {sites} customers {custs}\n")?.into_bytes())
+}
+
+fn ranged(alloc: Global, range: Range) -> Result<Vec<u8>, NoMemory>
+    ensures { IfOk result (λ text. text.items ≡ outcome_text (Outcome.Ranged range)) }
+{
+    let mut text = Vec::from_slice(alloc, b"range ")?;
+    push_micro(&mut text, range.least)?;
+    text.extend_from_slice(b" ")?;
+    push_micro(&mut text, range.greatest)?;
+    text.extend_from_slice(b"\n")?;
+    Ok(text)
+}
+
+fn centered(alloc: Global, end: CenterEnd) -> Result<Vec<u8>, NoMemory>
+    ensures { IfOk result (λ text. text.items ≡ center_line end) }
+{
+    match end {
+        CenterEnd::Best(radius) => center(alloc, radius),
+        CenterEnd::Infeasible => line(alloc, b"infeasible\n"),
+        CenterEnd::Open {
+            low,
+            high,
+            at,
+            nodes,
+            budget,
+        } => open_center(alloc, RadiusClaim::Bracket { low, high }, at, nodes, budget),
+    }
+}
+
+fn center(alloc: Global, radius: u64) -> Result<Vec<u8>, NoMemory>
+    ensures { IfOk result (λ text. text.items ≡ center_line (CenterEnd.Best radius)) }
+{
+    let mut text = Vec::from_slice(alloc, b"center ")?;
+    push_micro(&mut text, radius)?;
+    text.extend_from_slice(b"\n")?;
+    Ok(text)
+}
+
+fn open_center(
+    alloc: Global,
+    claim: RadiusClaim,
+    at: u64,
+    nodes: u32,
+    budget: u32,
+) -> Result<Vec<u8>, NoMemory>
+    ensures { IfOk result (λ text. text.items ≡ radius_text claim ++ codes " at " ++ micro_text at ++ codes " nodes " ++ decimal nodes ++ codes " budget " ++ decimal budget ++ codes "\n") }
+{
+    let mut text = Vec::new(alloc);
+    push_radius(&mut text, claim)?;
+    text.extend_from_slice(b" at ")?;
+    push_micro(&mut text, at)?;
+    let tail = format!(in alloc; " nodes {nodes} budget {budget}\n")?;
+    text.extend_from_slice(tail.as_bytes())?;
+    Ok(text)
 }

@@ -3,7 +3,7 @@ ghost use Rattle.std.specs.Prelude.{◌≡◌, None, Some, IfOk};
 ghost use Rattle.location_terms.specs.Instance.{AreSizes};
 ghost use Rattle.dualoc_cli.specs.Command.{command_of};
 ghost use Rattle.dualoc_cli.specs.Run.{Run};
-ghost use Rattle.dualoc_cli.specs.Session.{stop_of};
+ghost use Rattle.dualoc_cli.specs.Session.{row_end};
 ghost use Rattle.dualoc_cli.specs.Due.{IsCause};
 ghost use Rattle.dualoc_cli.specs.Step.{asked_trial};
 
@@ -19,7 +19,7 @@ use trial_instance::trial;
 pub fn solve_trial(alloc: Global, numbers: TrialNumbers) -> Result<Reply, NoMemory>
     requires { AreSizes numbers.sites numbers.custs }
     ensures cause { IfOk result (λ reply. (r : Run) → command_of r.words ≡ Some (asked_trial numbers) → IsCause r reply) }
-    ensures once { IfOk result (λ reply. stop_of reply ≡ None) }
+    ensures once { IfOk result (λ reply. row_end reply ≡ None) }
 {
     let TrialNumbers { seed, sites, custs } = numbers;
     let inst = trial(alloc, seed, sites as usize, custs as usize)?;

@@ -1,10 +1,10 @@
 ghost use Rattle.std.specs.Prelude.{◌≡◌, [], ◌∷◌, map, string_bytes};
 ghost use Rattle.std.specs.Option.{option_map};
-ghost use Rattle.dualoc_cli.specs.Command.{command_of, solve_command, short_of, duals_command, check_command, convert_command, session_command, trial_command, trial_of, are_trial_numbers, job_on, are_names};
+ghost use Rattle.dualoc_cli.specs.Command.{command_of, solve_command, short_of, duals_command, check_command, convert_command, session_command, range_on, fixed_range_command, lane_range_command, range_command, trial_command, trial_of, are_trial_numbers, job_on, center_command, curve_command, curve_of, are_names};
 ghost use Rattle.dualoc_cli.specs.Step.{asked, asked_job};
 
 use crate::limits::MAX_SEED;
-use crate::options::{Options, Takes, number};
+use crate::options::{Options, Takes, number, sites};
 use instance_forms::{FileForm, InstanceFile};
 use location_terms::{MAX_CUSTOMERS, MAX_LANES, MAX_SITES};
 
@@ -13,6 +13,26 @@ use location_terms::{MAX_CUSTOMERS, MAX_LANES, MAX_SITES};
 pub struct ResultFiles<'a> {
     pub plan: &'a str,
     pub certificate: &'a str,
+}
+
+/// A search for a center: where a count is given, of the plans that open just so many sites. Each of its
+/// probes has the budget, or one of its own where none is given. The result is written to two files, and
+/// the instance of which the certificate speaks to the new one.
+#[derive(Clone, Copy)]
+pub struct CenterTask<'a> {
+    pub into: ResultFiles<'a>,
+    pub new: &'a str,
+    pub given: Option<u32>,
+    pub count: Option<u32>,
+}
+
+/// A curve: a search for each number of open sites from the first to the last, with the budget or one of
+/// its own where none is given.
+#[derive(Clone, Copy)]
+pub struct CurveTask {
+    pub first: u32,
+    pub last: u32,
+    pub given: Option<u32>,
 }
 
 /// What is to be done with the instance by a command that answers once.
@@ -29,6 +49,20 @@ pub enum Task<'a> {
     Check(&'a str),
     /// To write it to the file of this name in the suite's own form.
     Convert(&'a str),
+    /// To print how far this cost may move while the certificate in the file of this name still proves its
+    /// plan optimal.
+    ShowRange(&'a str, CostAt),
+    /// To seek a center of it.
+    Center(CenterTask<'a>),
+}
+
+/// Which cost of an instance is meant, by the numbers of ids.
+#[derive(Clone, Copy)]
+pub enum CostAt {
+    /// That of opening the site.
+    Site(u32),
+    /// That of serving the customer from the site.
+    Lane(u32, u32),
 }
 
 /// What is to be done with the instance.
@@ -38,6 +72,8 @@ pub enum Job<'a> {
     Once(Task<'a>),
     /// To hold a session on it, whose lines come from the input.
     Session,
+    /// To print what each number of sites costs.
+    Curve(CurveTask),
 }
 
 /// A job on the instance in a file.
@@ -79,6 +115,9 @@ impl<'a> Command<'a> {
             "convert" => convert(words),
             "session" => session(words),
             "trial" => trial(words),
+            "range" => range(words),
+            "center" => center(words),
+            "curve" => curve(words),
             _ => None,
         }
     }
@@ -99,7 +138,13 @@ fn solve(words: &[String]) -> Option<Command<'_>>
     if !are_apart(file, plan, certificate) {
         return None;
     }
-    let options = Options::of(Takes { budget: true }, options)?;
+    let options = Options::of(
+        Takes {
+            budget: true,
+            count: false,
+        },
+        options,
+    )?;
     let job = Job::Once(Task::SolveLong(ResultFiles { plan, certificate }, options.budget));
     job_on(form.as_str(), file, job, options.capacity)
 }
@@ -133,7 +178,13 @@ fn duals(words: &[String]) -> Option<Command<'_>>
     if file.is_empty() {
         return None;
     }
-    let options = Options::of(Takes { budget: false }, options)?;
+    let options = Options::of(
+        Takes {
+            budget: false,
+            count: false,
+        },
+        options,
+    )?;
     job_on(
         form.as_str(),
         file.as_str(),
@@ -154,7 +205,13 @@ fn check(words: &[String]) -> Option<Command<'_>>
     if !are_names(file, certificate) {
         return None;
     }
-    let options = Options::of(Takes { budget: false }, options)?;
+    let options = Options::of(
+        Takes {
+            budget: false,
+            count: false,
+        },
+        options,
+    )?;
     job_on(
         form.as_str(),
         file,
@@ -175,7 +232,13 @@ fn convert(words: &[String]) -> Option<Command<'_>>
     if !are_names(file, new) {
         return None;
     }
-    let options = Options::of(Takes { budget: false }, options)?;
+    let options = Options::of(
+        Takes {
+            budget: false,
+            count: false,
+        },
+        options,
+    )?;
     job_on(
         form.as_str(),
         file,
@@ -195,7 +258,13 @@ fn session(words: &[String]) -> Option<Command<'_>>
     if file.is_empty() {
         return None;
     }
-    let options = Options::of(Takes { budget: false }, options)?;
+    let options = Options::of(
+        Takes {
+            budget: false,
+            count: false,
+        },
+        options,
+    )?;
     job_on(form.as_str(), file.as_str(), Job::Session, options.capacity)
 }
 
@@ -211,6 +280,146 @@ fn trial(words: &[String]) -> Option<Command<'static>>
     let sites = number(sites.as_bytes())?;
     let custs = number(custs.as_bytes())?;
     trial_of(seed, sites, custs)
+}
+
+// The words behind `range`.
+#[tactic(auto, unfolding(crate::specs::Command::range_command))]
+fn range(words: &[String]) -> Option<Command<'_>>
+    ensures { option_map asked result ≡ range_command (map string_bytes words.now) }
+{
+    let [form, file, certificate, kind, words @ ..] = words else {
+        return None;
+    };
+    let (form, file, certificate) = (form.as_str(), file.as_str(), certificate.as_str());
+    match kind.as_str() {
+        "site" => fixed_range(form, file, certificate, words),
+        "lane" => lane_range(form, file, certificate, words),
+        _ => None,
+    }
+}
+
+// The words behind `site`.
+#[tactic(auto, unfolding(crate::specs::Command::fixed_range_command))]
+fn fixed_range<'a>(
+    form: &str,
+    file: &'a str,
+    certificate: &'a str,
+    words: &[String],
+) -> Option<Command<'a>>
+    ensures { option_map asked result ≡ fixed_range_command form.now file.now certificate.now (map string_bytes words.now) }
+{
+    let [site, options @ ..] = words else {
+        return None;
+    };
+    let site = number(site.as_bytes())?;
+    range_on(form, file, certificate, options, CostAt::Site(site))
+}
+
+// The words behind `lane`.
+#[tactic(auto, unfolding(crate::specs::Command::lane_range_command))]
+fn lane_range<'a>(
+    form: &str,
+    file: &'a str,
+    certificate: &'a str,
+    words: &[String],
+) -> Option<Command<'a>>
+    ensures { option_map asked result ≡ lane_range_command form.now file.now certificate.now (map string_bytes words.now) }
+{
+    let [site, cust, options @ ..] = words else {
+        return None;
+    };
+    let site = number(site.as_bytes())?;
+    let cust = number(cust.as_bytes())?;
+    range_on(form, file, certificate, options, CostAt::Lane(site, cust))
+}
+
+// The range of a cost, by the certificate in a file.
+fn range_on<'a>(
+    form: &str,
+    file: &'a str,
+    certificate: &'a str,
+    options: &[String],
+    at: CostAt,
+) -> Option<Command<'a>>
+    ensures { option_map asked result ≡ range_on form.now file.now certificate.now (map string_bytes options.now) at }
+{
+    if !are_names(file, certificate) {
+        return None;
+    }
+    let takes = Takes {
+        budget: false,
+        count: false,
+    };
+    let options = Options::of(takes, options)?;
+    let job = Job::Once(Task::ShowRange(certificate, at));
+    job_on(form, file, job, options.capacity)
+}
+
+// The words behind `center`.
+#[tactic(auto, unfolding(crate::specs::Command::center_command))]
+fn center(words: &[String]) -> Option<Command<'_>>
+    ensures { option_map asked result ≡ center_command (map string_bytes words.now) }
+{
+    let [form, file, plan, certificate, new, options @ ..] = words else {
+        return None;
+    };
+    let (file, new) = (file.as_str(), new.as_str());
+    let (plan, certificate) = (plan.as_str(), certificate.as_str());
+    if !are_four_names(file, plan, certificate, new) {
+        return None;
+    }
+    let takes = Takes {
+        budget: true,
+        count: true,
+    };
+    let options = Options::of(takes, options)?;
+    let asks = CenterTask {
+        into: ResultFiles { plan, certificate },
+        new,
+        given: options.budget,
+        count: options.count,
+    };
+    let job = Job::Once(Task::Center(asks));
+    job_on(form.as_str(), file, job, options.capacity)
+}
+
+// The words behind `curve`.
+#[tactic(auto, unfolding(crate::specs::Command::curve_command))]
+fn curve(words: &[String]) -> Option<Command<'_>>
+    ensures { option_map asked result ≡ curve_command (map string_bytes words.now) }
+{
+    let [form, file, first, last, options @ ..] = words else {
+        return None;
+    };
+    let first = sites(first.as_bytes())?;
+    let last = sites(last.as_bytes())?;
+    curve_of(form.as_str(), file.as_str(), first, last, options)
+}
+
+// The curve from one number of sites to another, if that is no less.
+fn curve_of<'a>(
+    form: &str,
+    file: &'a str,
+    first: u32,
+    last: u32,
+    options: &[String],
+) -> Option<Command<'a>>
+    ensures { option_map asked result ≡ curve_of form.now file.now first last (map string_bytes options.now) }
+{
+    if first > last || file.is_empty() {
+        return None;
+    }
+    let takes = Takes {
+        budget: true,
+        count: false,
+    };
+    let options = Options::of(takes, options)?;
+    let job = Job::Curve(CurveTask {
+        first,
+        last,
+        given: options.budget,
+    });
+    job_on(form, file, job, options.capacity)
 }
 
 // The trial of these numbers, if they are within the limits.
@@ -247,6 +456,17 @@ fn are_apart(one: &str, other: &str, third: &str) -> bool
     ensures { result ≡ are_names (one.now ∷ other.now ∷ third.now ∷ []) }
 {
     !one.is_empty() && one != other && one != third && are_names(other, third)
+}
+
+// Whether the names of four files are not empty, and all different.
+fn are_four_names(one: &str, other: &str, third: &str, fourth: &str) -> bool
+    ensures { result ≡ are_names (one.now ∷ other.now ∷ third.now ∷ fourth.now ∷ []) }
+{
+    !one.is_empty()
+        && one != other
+        && one != third
+        && one != fourth
+        && are_apart(other, third, fourth)
 }
 
 // Whether the names of two files are not empty, and not the same.

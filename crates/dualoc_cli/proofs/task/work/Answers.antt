@@ -2,7 +2,7 @@ use Rattle.std.proofs.Common.{refl, ap}
 use Rattle.std.proofs.lemmas.Result.{err_from_is_err_and}
 use Rattle.dualoc_cli.specs.Step.{asked_job, asked_task}
 use Rattle.dualoc_cli.proofs.Parts.{once_asked}
-use Rattle.dualoc_cli.proofs.Spanning.{once_replied, once_halted, once_kept, session_replied, session_halted, session_kept}
+use Rattle.dualoc_cli.proofs.Spanning.{once_replied, once_halted, once_kept, session_replied, session_halted, session_kept, curve_replied, curve_halted, curve_kept}
 use Rattle.dualoc_cli.proofs.task.work.Goals as goal
 
 pub returns-in_ok-done-in-Once-clause-replied : goal.returns-in_ok-done-in-Once-clause-replied
@@ -28,3 +28,17 @@ returns-in-Session-clause-halted g c = session_halted (asked_job c.args.job) _ _
 
 pub returns-in-Session-clause-keeps : goal.returns-in-Session-clause-keeps
 returns-in-Session-clause-keeps g c = session_kept (asked_job c.args.job) _ _ _ (ap asked_job c.in-Session.is) c.session.result c.session.ensures.ended c.session.ensures.halted
+
+pub returns-in-Curve-clause-replied : goal.returns-in-Curve-clause-replied
+returns-in-Curve-clause-replied g c =
+    let asks = c.in-Curve.asks in
+    curve_replied (asked_job c.args.job) _ _ _ asks.first asks.last asks.given (ap asked_job c.in-Curve.is) refl refl c.draw_curve.result c.draw_curve.ensures.replied
+
+pub returns-in-Curve-clause-halted : goal.returns-in-Curve-clause-halted
+returns-in-Curve-clause-halted g c =
+    let asks = c.in-Curve.asks in
+    curve_halted (asked_job c.args.job) _ _ _ asks.first asks.last asks.given (ap asked_job c.in-Curve.is) refl refl c.draw_curve.result c.draw_curve.ensures.halted
+
+pub returns-in-Curve-clause-keeps : goal.returns-in-Curve-clause-keeps
+returns-in-Curve-clause-keeps g c =
+    let asks = c.in-Curve.asks in curve_kept (asked_job c.args.job) _ _ _ asks.first asks.last asks.given (ap asked_job c.in-Curve.is) refl refl
