@@ -20,9 +20,10 @@ CHECK_NO = 3
 LINES = {READ_FAULT: "read fault\n", WRITE_FAULT: "write fault\n", USAGE: "usage\n"}
 BEFORE = b"before\n" * 100
 # Each command on good files, of which it reads `a` and `k` and writes the others.
-COMMANDS = [it.split() for it in ("solve ufl a", "solve ufl a p c", "check ufl a k", "convert ufl a n", "duals ufl a", "session ufl a")]
-SEARCH, CHECK, CONVERSION = COMMANDS[1:4]
-WRITTEN = ["p", "c", "n"]
+COMMANDS = [it.split() for it in ("solve ufl a", "solve ufl a p c", "check ufl a k", "convert ufl a n", "range ufl a k site 1",
+                                  "center ufl a cp cc cn", "curve ufl a 0 3", "duals ufl a", "session ufl a")]
+SEARCH, CHECK, CONVERSION, RANGE, CENTER = COMMANDS[1:6]
+WRITTEN = ["p", "c", "n", "cp", "cc", "cn"]
 NO_FILES = [".", "a/a", "nowhere/a", "loop", "x" * 300, "y/" * 2500]
 UNREADABLE = [*NO_FILES, "nothing", "z" * 100_000, "--help", "/proc/self/mem"]
 UNWRITABLE = [*NO_FILES, "/dev/full", "/proc/version"]
@@ -79,15 +80,16 @@ def odd_words(scene):
 
 
 def odd_files(scene):
-    """Names that can't be read, or not be written, in each place. Where the certificate can't be written, the plan is whole."""
+    """Names that can't be read, or not be written, in each place. Where a file can't be written, those before it are whole."""
     for words in COMMANDS:
-        for place in range(2, len(words)):
+        for place in [k for k, word in enumerate(words) if word in ("a", "k", *WRITTEN)]:
             is_written = words[place] in WRITTEN
-            left = {"p": scene.text["p"]} if words[place] == "c" else {}
+            left = {name: scene.text[name] for name in words[2:place] if is_written and name in WRITTEN}
             for name in UNWRITABLE if is_written else UNREADABLE:
                 scene.refuse(put(words, place, name), WRITE_FAULT if is_written else READ_FAULT, left)
     scene.expect(put(CHECK, 2, "/dev/null"), "bad input Ended line 1 word 1\n", BAD_INPUT)
-    scene.expect(put(CHECK, 3, "/dev/null"), "no Ended line 1\n", CHECK_NO)
+    for words in CHECK, RANGE:
+        scene.expect(put(words, 3, "/dev/null"), "no Ended line 1\n", CHECK_NO)
     scene.expect(put(CHECK, 2, "/dev/zero"), "too large instance\n", TOO_LARGE)
     scene.expect(put(CHECK, 3, "/dev/zero"), "too large certificate\n", TOO_LARGE)
     with open("/dev/zero", "rb") as zeros:
@@ -112,7 +114,8 @@ def odd_sizes(scene):
              (b"x" * MILLION, "Ended line 6"), (b"\xff\0\n", "BadLine line 6")]
     for text, fault in texts:
         scene.program.write("odd", PLAN_FRONT + text)
-        scene.expect(put(CHECK, 3, "odd"), f"no {fault}\n", CHECK_NO)
+        for words in CHECK, RANGE:
+            scene.expect(put(words, 3, "odd"), f"no {fault}\n", CHECK_NO)
 
 
 def bad_outputs():
@@ -173,6 +176,13 @@ def full_disks(scene):
             scene.expect(SEARCH, scene.whole[1][0], DONE, {"p": plan, "c": certificate}, **how)
         scene.refuse(CONVERSION, WRITE_FAULT, {"n": new[:size]}, **how)
         scene.expect(COMMANDS[-1], "refused WriteFailed\n", DONE, {"n": new[:size]}, stdin=None, input=b"save n\n", **how)
+    names = CENTER[3:]
+    for size in {max(0, len(scene.text[name]) + more) for name in names for more in (-1, 0)}:
+        how = {"restore_signals": False, "preexec_fn": lambda: resource.setrlimit(resource.RLIMIT_FSIZE, (size, size))}
+        cut = next((k for k, name in enumerate(names) if len(scene.text[name]) > size), len(names))
+        left = {name: scene.text[name][:size] for name in names[:cut + 1]}
+        said, status = (LINES[WRITE_FAULT], WRITE_FAULT) if cut < len(names) else scene.whole[COMMANDS.index(CENTER)][:2]
+        scene.expect(CENTER, said, status, left, **how)
 
 
 def full_mount(scene):

@@ -1,10 +1,10 @@
 """Lets each allocation of a built program fail, one in each run: `memory.py PROGRAM`.
 
 A small library stands between the program and the C library's `malloc` and `realloc`: it counts the calls, and refuses the one
-of a given number. With it the program solves, checks, shows duals, converts and holds a session on a small file of each form, for
-each number up to that of the calls of a whole run; behind the first 300 of a run some are left out, always the same. Each run has to
-come to what it comes to without a fault, to the same bytes; or to `no memory`, behind the replies to a session's first lines, with
-each file as it has to be then: those of the lines before whole, the next one as before or a front of its text, and all others as
+of a given number. With it the program solves, checks, shows duals, converts, tells ranges, finds a center, draws a curve and holds a
+session on a small file of each form, for each number up to that of the calls of a whole run; behind the first 300 of a run some are left out, always the same. Each run has to
+come to what it comes to without a fault, to the same bytes; or to `no memory`, behind the replies to a session's first lines or the
+first lines of a curve, with each file as it has to be then: those of the lines before whole, the next one as before or a front of its text, and all others as
 before. Last come the host's own limits of memory, and files that are too large for them.
 
 The library is compiled with `cc`. Where there is none, or none that can do it, nothing is asked.
@@ -82,14 +82,16 @@ class Scene:
     def made(self):
         return int.from_bytes(self.read("made"), sys.byteorder)
 
-    def refuse(self, words, lines=(), written=()):
-        """Each call is refused in turn, and what comes of it is judged."""
+    def refuse(self, words, lines=(), written=(), is_row=False):
+        """Each call is refused in turn, and what comes of it is judged. Of a row each line stands that was done."""
         whole = self.run(words, lines, written)
         made = self.made()
         if made == 0:
             sys.exit(f"check: {words} makes no allocation that the library sees")
         # What was said, and what the files held, behind each line; or at the start and at the end.
-        steps = [self.run(words, lines[:count], written) for count in range(len(lines))] or [("", DONE, [BEFORE for _ in written])]
+        rows = whole[0].splitlines(True) if is_row else []
+        steps = [self.run(words, lines[:count], written) for count in range(len(lines))] or [
+            ("".join(rows[:count]), DONE, [BEFORE for _ in written]) for count in range(len(rows) + 1)]
         for failing in [*range(1, min(made, ALL) + 1), *range(ALL + 1, made + 1, max(1, (made - ALL) // SOME))]:
             found = self.run(words, lines, written, failing)
             if found != whole and not is_due(found, [*steps, whole]):
@@ -125,6 +127,10 @@ def ask(scene, form, text, *lanes):
     scene.refuse(["convert", form, "a", "n"], written=["n"])
     scene.refuse(["solve", form, "a", "p", "c"], written=["p", "c"])
     scene.refuse(["check", form, "a", "c"])
+    scene.refuse(["range", form, "a", "c", "site", "2"])
+    scene.refuse(["range", form, "a", "c", "lane", "1", "1"])
+    scene.refuse(["center", form, "a", "cp", "cc", "cn"], written=["cp", "cc", "cn"])
+    scene.refuse(["curve", form, "a", "1", "3"], is_row=True)
     scene.refuse(["session", form, "a"], [line.format(*lanes) for line in LINES], ["k", "n"])
     if form == "ufl":
         scene.refuse(["solve", form, "a"])
