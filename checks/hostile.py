@@ -165,7 +165,7 @@ def odd_inputs(scene):
 
 def full_disks(scene):
     """A file takes only so many bytes: what is written is a front of its text."""
-    plan, certificate, new = (scene.text[name] for name in WRITTEN)
+    plan, certificate, new = (scene.text[name] for name in WRITTEN[:3])
     for size in {0, 1, len(plan) - 1, len(plan), len(plan) + 1, len(certificate) - 1, len(certificate)}:
         how = {"restore_signals": False, "preexec_fn": lambda: resource.setrlimit(resource.RLIMIT_FSIZE, (size, size))}
         if size < len(plan):
