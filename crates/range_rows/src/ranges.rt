@@ -17,12 +17,12 @@ fn answers<'x>(
 }
 
 // Whether it is so of two sites and the certificate of their best plan.
-fn shows(alloc: Global, words: &str, line: &str) -> Result<bool, AllocError> {
+fn shows<'x>(alloc: Global, words: &'x str, line: &'x str) -> Result<bool, AllocError> {
     let files = [("a", TWO_SITES), ("k", CERTIFICATE)];
     answers(alloc, words, files, Status::Done, line)
 }
 
-fn refuses(alloc: Global, words: &str, line: &str) -> Result<bool, AllocError> {
+fn refuses<'x>(alloc: Global, words: &'x str, line: &'x str) -> Result<bool, AllocError> {
     let files = [("a", TWO_SITES), ("k", CERTIFICATE)];
     answers(alloc, words, files, Status::Refused, line)
 }
