@@ -23,8 +23,13 @@ def pieces_of(text):
 
 
 def feed(end, text):
-    """Writes the text to an open pipe, piece after piece, as long as someone reads it, and closes it."""
-    with open(end, "wb", buffering=0) as pipe:
+    """Writes the text to a pipe, piece after piece, as long as someone reads it, and closes it."""
+    try:
+        # A named pipe that is gone by then is no file to be made.
+        opened = os.open(end, os.O_WRONLY) if isinstance(end, str) else end
+    except FileNotFoundError:
+        return
+    with open(opened, "wb", buffering=0) as pipe:
         try:
             for piece in pieces_of(text):
                 time.sleep(PAUSE)
