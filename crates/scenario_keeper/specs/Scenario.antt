@@ -1,5 +1,5 @@
 -- What is kept under a name.
-use Rattle.std.specs.Prelude.{ℕ, List, [], ◌∷◌, ◌++◌, refl}
+use Rattle.std.specs.Prelude.{ℕ, ◌-◌, List, [], ◌∷◌, ◌++◌, length, take, refl}
 use Rattle.std.specs.Coded.{Coded, code_by, coded×, coded_list, coded_ℕ}
 
 -- a scenario: the text of its base instance, and the lines of the edits that lead on from it, in order
@@ -14,6 +14,10 @@ unedited base = record { base = base; edits = [] }
 -- the scenario with one more edit behind its others
 abbrev pub with_line : Scenario → List ℕ → Scenario
 with_line scenario line = record scenario { edits = scenario.edits ++ line ∷ [] }
+
+-- the scenario without the last of its edits, where it has one
+abbrev pub without_last : Scenario → Scenario
+without_last scenario = record scenario { edits = take (length scenario.edits - 1) scenario.edits }
 
 -- the code by which a struct can have a scenario as its value
 abbrev pub scenario_code : Coded Scenario

@@ -1,6 +1,6 @@
 //! A scenario: a base instance and the edits that lead on from it, both as text.
 ghost use Rattle.std.specs.Prelude.{◌≡◌, ◌<◌, length, slice_index_or, [], IfOk, OnOk, OnErr};
-ghost use Rattle.scenario_keeper.specs.Scenario.{unedited, with_line};
+ghost use Rattle.scenario_keeper.specs.Scenario.{unedited, with_line, without_last};
 
 use crate::fault::NoMemory;
 use std::alloc::Global;
@@ -47,6 +47,13 @@ impl Scenario {
         let line = line.to_vec(self.alloc)?;
         self.edits.push(line)?;
         Ok(())
+    }
+
+    /// Takes the line of the last edit out, where there is one.
+    pub fn pop(&mut self)
+        ensures { self.new ≡ without_last self.old }
+    {
+        let _last = self.edits.pop();
     }
 
     /// The text of the base.

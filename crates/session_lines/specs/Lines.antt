@@ -141,6 +141,14 @@ line_of_words (verb ∷ words) = option_and_then (λ row. row.1 words) (find (λ
 abbrev pub session_line : List ℕ → Option SessionLine
 session_line line = line_of_words (words_of_line line)
 
+-- the edit that a line asks for; none where it asks for something else, or its words are those of no command
+abbrev pub change_in : SessionLine → Option Edit
+change_in (Change e) = Some e
+change_in line = None
+
+abbrev pub line_edit : List ℕ → Option Edit
+line_edit line = option_and_then change_in (session_line line)
+
 -- the amounts of an edit that a line asks for are within their limits
 abbrev pub HasLineAmounts : SessionLine → Type 0
 HasLineAmounts (Change e) = HasAmounts e

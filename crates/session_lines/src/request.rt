@@ -1,7 +1,8 @@
 //! What a line of a session asks for.
 ghost use Rattle.std.specs.Prelude.{◌≡◌, ◌∷◌, IfOk, IfSome, bytes_eq, option_map};
 ghost use Rattle.session_lines.specs.Asked.{line_of_request};
-ghost use Rattle.session_lines.specs.Lines.{HasLineAmounts, alone, solve_asked, save_asked, cert_asked, line_of_words, session_line};
+ghost use Rattle.session_lines.specs.Lines.{HasLineAmounts, alone, solve_asked, save_asked, cert_asked, line_edit, line_of_words, session_line};
+ghost use Rattle.instance_edits.specs.Edits.{HasAmounts};
 
 use crate::answer_form::AnswerForm;
 use crate::changes::{
@@ -44,6 +45,18 @@ pub fn request_of<'a>(alloc: Global, line: &'a [u8]) -> Result<Option<Request<'a
     match words.next() {
         Some(verb) => behind(alloc, verb, words),
         None => Ok(Some(Request::Blank)),
+    }
+}
+
+/// The edit that a line asks for; `None` where its words are those of no edit. The amounts of an edit are within their
+/// limits. It fails only where memory runs out.
+pub fn read_edit(alloc: Global, line: &[u8]) -> Result<Option<Edit>, NoMemory>
+    ensures edit { IfOk result (λ r. r ≡ line_edit line.now) }
+    ensures amounts { IfOk result (λ r. IfSome r HasAmounts) }
+{
+    match request_of(alloc, line)? {
+        Some(Request::Change(edit)) => Ok(Some(edit)),
+        _ => Ok(None),
     }
 }
 

@@ -20,5 +20,5 @@ pub use leaf_book::LeafBook;
 pub use limits::{KEPT_SOLVES, MAX_EDITS, MAX_INPUT_BYTES, MAX_LINE_BYTES};
 pub use reply::Reply;
 pub use session::Session;
-pub use session_lines::{Came, SessionFault};
+pub use session_lines::{Came, SessionFault, read_edit};
 pub use solving::Outcome;

@@ -40,8 +40,8 @@ impl Reply {
         self.ended
     }
 
-    // A text, with which the session goes on.
-    pub(crate) fn of(text: Vec<u8>) -> Reply
+    /// A text, with which the session goes on.
+    pub fn of(text: Vec<u8>) -> Reply
         ensures { result ≡ record { text = text.items; ended = false } }
     {
         Reply { text, ended: false }
