@@ -5,6 +5,7 @@
 
 mod counted;
 mod covering;
+mod exchanges;
 mod raised;
 mod strategy;
 

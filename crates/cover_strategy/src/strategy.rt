@@ -7,13 +7,14 @@ ghost use Rattle.strategy_port.specs.Scene.{IsScene};
 
 use crate::counted::with_enough;
 use crate::covering::SITE_COST;
+use crate::exchanges::few_sites;
 use crate::raised::Raised;
 use dual_ascent::Workspace;
 use dual_value::{Path, PreparedBox};
 use instance_store::{Instance, NoMemory};
 use lane_order::LaneOrder;
 use plan_meaning::{Plan, judge};
-use plan_search::is_path_of;
+use plan_search::{LocalSearch, improved_set, is_path_of};
 use search_strategy::SearchStrategy;
 use std::alloc::Global;
 use std::marker::Model;
@@ -118,7 +119,35 @@ impl<'a, S: Strategy + Drop> CoverStrategy<'a, S> {
         let zeros = raised.duals.copied()?;
         raised.take(&boxed, order, &mut work, zeros)?;
         let found = self.ask(&boxed, order, &mut raised, &mut work)?;
-        Ok(found)
+        match found {
+            Move::Done => self.exchange_sites(&boxed, order),
+            found => Ok(found),
+        }
+    }
+
+    // Seeks a plan of few enough sites by exchanges, in the first box. It fails only where memory runs out.
+    fn exchange_sites(
+        &mut self,
+        boxed: &PreparedBox<'_>,
+        order: &LaneOrder,
+    ) -> Result<Move, NoMemory>
+        requires order { IsOrderOf order.now boxed.now.instance }
+        requires path { IsPathOf boxed.now.instance boxed.now.path }
+    {
+        if !self.is_first {
+            return Ok(Move::Done);
+        }
+        let Some(flags) = few_sites(self.alloc, boxed, order, self.count.1 as usize)? else {
+            return Ok(Move::Done);
+        };
+        let mut local = LocalSearch::of(self.alloc, boxed.instance())?;
+        let Some(plan) = improved_set(self.alloc, boxed, order, &mut local, &flags, None)? else {
+            return Ok(Move::Done);
+        };
+        match self.try_plan(boxed, plan)? {
+            Tried::Found(found) => Ok(found),
+            Tried::More | Tried::Last => Ok(Move::Done),
+        }
     }
 
     // Asks for one move after another, up to a plan of few enough sites or duals that show that there is none.
