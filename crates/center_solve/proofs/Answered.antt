@@ -5,14 +5,14 @@ use Rattle.location_terms.specs.Instance.{Instance, IsValid}
 use Rattle.location_terms.specs.Optimal.{IsImpossible}
 use Rattle.location_terms.specs.Tree.{Tree, nodes_of}
 use Rattle.location_terms.proofs.Claims.{claim_holds}
-use Rattle.plan_radius.specs.Radius.{radius_of, IsLeastRadius, IsAboveLanes}
+use Rattle.plan_radius.specs.Radius.{radius_of, IsLeastRadius}
 use Rattle.plan_radius.specs.Cheaper.{below_cost}
 use Rattle.plan_radius.proofs.Thresholds.{least_from_impossible, valid_below, below_all}
 use Rattle.center_solve.specs.declared.answer.CenterAnswer.{CenterAnswer}
 use Rattle.center_solve.specs.declared.answer.CenterAnswer.TheVariants.{Best, Infeasible, Open}
 use Rattle.center_solve.specs.declared.known.Known.{Known}
 use Rattle.center_solve.specs.declared.probe.Finding.TheVariants as probes
-use Rattle.center_solve.specs.Center.{ShowsNoPlan, IsCenterAnswer, CenterHolds}
+use Rattle.center_solve.specs.Center.{ShowsNoPlan, IsJustAboveLanes, IsCenterAnswer, CenterHolds}
 use Rattle.center_solve.specs.Probing.{IsProbeOf, IsKnownSoFar}
 
 module _ (I : Instance) (valid : IsValid I) where
@@ -50,17 +50,17 @@ module _ (I : Instance) (valid : IsValid I) where
       })
 
   -- the first probe
-  module _ (at : ℕ) (above : IsAboveLanes I at) where
+  module _ (at : ℕ) (just : IsJustAboveLanes I at) where
     pub none_answer : (budget : ℕ) (tree : Tree) → IsProbeOf I at budget (probes.Empty tree) → IsCenterAnswer I budget (Infeasible tree)
-    none_answer budget tree probe = (subst (λ J. ShowsNoPlan J tree) (below_all I at above) probe.0, probe.1)
+    none_answer budget tree probe = (subst (λ J. ShowsNoPlan J tree) (below_all I at just.above) probe.0, probe.1)
 
-    pub first_open : (budget low : ℕ) (tree probe : Tree) → low ≡ 0 → 0 < at → ShowsNoPlan (below_cost I low) tree → nodes_of tree ≡ 1 → IsProbeOf I at budget (probes.Open probe) → IsCenterAnswer I budget (Open low None tree at probe)
-    first_open budget low tree probe least positive shown one open_probe = record {
+    pub first_open : (budget low : ℕ) (tree probe : Tree) → low ≡ 0 → ShowsNoPlan (below_cost I low) tree → nodes_of tree ≡ 1 → IsProbeOf I at budget (probes.Open probe) → IsCenterAnswer I budget (Open low None tree at probe)
+    first_open budget low tree probe nothing shown one open_probe = record {
       shown = shown;
       sized = inl one;
       feasible = tt;
       ended = open_probe.0;
       hard = open_probe.1;
-      narrowed = omega (arith, least, positive);
-      reach = above;
+      narrowed = omega (arith, nothing, just.positive);
+      reach = (nothing, just);
     }

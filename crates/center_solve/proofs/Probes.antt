@@ -56,6 +56,7 @@ module _ (I : Instance) (at : ℕ) where
       grown = answer.grown;
       sought = answer.sought;
       unfinished = answer.cause.unfinished;
+      within = omega (arith, answer.made, answer.within);
       spent = let spent = answer.cause.spent in omega (arith, spent, answer.made);
     },
     λ none free. absurd (false≢true (answer.cause.planless (no_caps none) (free_count free))),

@@ -34,19 +34,26 @@ abbrev pub probed : Instance → ℕ → Instance
 probed I at = without_costs (below_cost I at)
 
 -- A search of a probe's instance that found no plan and didn't show that there is none: its tree grew from the root leaf, at no leaf did packing give a
--- plan, a leaf is open, and one more split would make more nodes than the budget allows.
+-- plan, a leaf is open, its splits made no more nodes than the budget allows, and one more split would.
 pub record IsOpenProbe (Z : Instance) (budget : ℕ) (probe : Tree) : Type 0 where
   pub grown : IsGrownFrom Z None None (root_of Z) probe
   pub sought : PlansWereSought Z probe None
   pub unfinished : HasOpenLeaf Z probe None
+  pub within : nodes_of probe ≤ budget + 1
   pub spent : budget < nodes_of probe + 1
+
+-- the least cost above 0 that is above that of every lane: one millionth more than the dearest lane costs
+pub record IsJustAboveLanes (I : Instance) (r : ℕ) : Type 0 where
+  pub above : IsAboveLanes I r
+  pub positive : 0 < r
+  pub least : (q : ℕ) → 0 < q → IsAboveLanes I q → r ≤ q
 
 -- The tree is one leaf, or that of a probe: it grew from the root leaf, within the budget.
 abbrev pub IsTreeOfProbe : Instance → ℕ → Tree → Type 0
 IsTreeOfProbe I budget t = (nodes_of t ≡ 1) ⊎ ((at : ℕ) × IsGrownFrom (probed I at) None None (root_of (probed I at)) t × (nodes_of t ≤ budget + 1))
 
 -- The search ended with an open probe at a cost: no plan's radius is below the low end, and the best plan that is known, if one is, has a radius of
--- at least the probe's cost. Without a plan the first probe ended it, whose cost is above that of every lane.
+-- at least the probe's cost. Without a plan the first probe ended it, whose cost is just above that of every lane, and of the best radius nothing is known.
 pub record IsOpenCenter (I : Instance) (budget low : ℕ) (plan : Option Plan) (tree : Tree) (at : ℕ) (probe : Tree) : Type 0 where
   pub shown : ShowsNoPlan (below_cost I low) tree
   pub sized : IsTreeOfProbe I budget tree
@@ -55,7 +62,7 @@ pub record IsOpenCenter (I : Instance) (budget low : ℕ) (plan : Option Plan) (
   -- only capacities or the number of open sites make a probe hard
   pub hard : HasNoCaps I → HasFreeCount I → ⊥
   pub narrowed : low < at
-  pub reach : MatchOption plan (IsAboveLanes I at) (λ P. at ≤ radius_of I P)
+  pub reach : MatchOption plan ((low ≡ 0) × IsJustAboveLanes I at) (λ P. at ≤ radius_of I P)
 
 -- what each answer shows
 abbrev pub IsCenterAnswer : Instance → ℕ → CenterAnswer → Type 0

@@ -5,7 +5,8 @@ ghost use Rattle.location_terms.specs.declared.limits.TheConstants.{MAX_SITES};
 ghost use Rattle.tree_search.specs.Answer.{IsWithin, IsAnswerTo, IsDecided, claim_in, plan_in, most_decisions};
 ghost use Rattle.center_solve.specs.Center.{with_exact_count, root_of};
 
-use crate::searched::searched;
+use crate::hint::Hint;
+use crate::searched::searched_from;
 use instance_store::{Instance, NoMemory};
 use std::alloc::Global;
 use tree_search::Answer;
@@ -29,9 +30,27 @@ pub fn curve(alloc: Global, inst: &Instance, count: u32, budget: u32) -> Result<
     ensures holds { IfOk result (λ a. ClaimHolds (with_exact_count inst.now count) (claim_in (with_exact_count inst.now count) a) (plan_in a)) }
     ensures decided { 2 ^ (most_decisions inst.now + 1) ≤ budget → IfOk result IsDecided }
 {
+    curve_from(alloc, inst, count, budget, None)
+}
+
+/// The same, and sooner, where the hint is from the answer for a number of sites nearby: the search begins with that plan
+/// and those duals. What it comes to is as good whatever the hint is. It fails only where memory runs out.
+pub fn curve_from(
+    alloc: Global,
+    inst: &Instance,
+    count: u32,
+    budget: u32,
+    hint: Option<&Hint>,
+) -> Result<Answer, NoMemory>
+    requires count { count ≤ MAX_SITES }
+    requires within { IsWithin inst.now budget }
+    ensures answer { IfOk result (IsAnswerTo (with_exact_count inst.now count) (root_of (with_exact_count inst.now count)) None budget) }
+    ensures holds { IfOk result (λ a. ClaimHolds (with_exact_count inst.now count) (claim_in (with_exact_count inst.now count) a) (plan_in a)) }
+    ensures decided { 2 ^ (most_decisions inst.now + 1) ≤ budget → IfOk result IsDecided }
+{
     let counted = with_exact_count(alloc, inst, count)?;
     // An instance is valid.
     let _sites = counted.sites();
-    let answer = searched(alloc, &counted, budget)?;
+    let answer = searched_from(alloc, &counted, budget, hint)?;
     Ok(answer)
 }

@@ -2,14 +2,13 @@
 ghost use Rattle.std.specs.Prelude.{ℕ, ◌<◌, ◌≤◌, IfSome, length};
 ghost use Rattle.location_terms.specs.Instance.{site_at, customer_at, lane};
 ghost use Rattle.location_terms.specs.declared.limits.TheConstants.{MAX_AMOUNT};
-ghost use Rattle.plan_radius.specs.Radius.{IsAboveLanes};
+ghost use Rattle.center_solve.specs.Center.{IsJustAboveLanes};
 
 use instance_store::Instance;
 
 /// A cost above that of every lane, in millionths: one above the greatest.
 pub(crate) fn above_lanes(inst: &Instance) -> u64
-    ensures above { IsAboveLanes inst.now result }
-    ensures positive { 0 < result }
+    ensures { IsJustAboveLanes inst.now result }
 {
     // An instance is valid, so that each lane is between a site and a customer of it.
     let _sites = inst.sites();
@@ -20,6 +19,8 @@ pub(crate) fn above_lanes(inst: &Instance) -> u64
 fn greatest_lane(inst: &Instance) -> u64
     ensures greatest { (i j : ℕ) → i < length inst.now.sites → j < length inst.now.customers →
         IfSome (lane inst.now (site_at inst.now i).id (customer_at inst.now j).id) (λ cost. cost ≤ result) }
+    ensures least { (r : ℕ) → ((i j : ℕ) → i < length inst.now.sites → j < length inst.now.customers →
+        IfSome (lane inst.now (site_at inst.now i).id (customer_at inst.now j).id) (λ cost. cost ≤ r)) → result ≤ r }
     ensures small { result ≤ MAX_AMOUNT }
 {
     let mut greatest = 0;
@@ -36,6 +37,8 @@ fn greatest_from(inst: &Instance, site: usize, at_least: u64) -> u64
     ensures more { at_least ≤ result }
     ensures greatest { (j : ℕ) → j < length inst.now.customers →
         IfSome (lane inst.now (site_at inst.now site).id (customer_at inst.now j).id) (λ cost. cost ≤ result) }
+    ensures least { (r : ℕ) → at_least ≤ r → ((j : ℕ) → j < length inst.now.customers →
+        IfSome (lane inst.now (site_at inst.now site).id (customer_at inst.now j).id) (λ cost. cost ≤ r)) → result ≤ r }
     ensures small { result ≤ MAX_AMOUNT }
 {
     let mut greatest = at_least;
@@ -51,6 +54,7 @@ fn greater(cost: u64, lane: Option<u64>) -> u64
     requires lane { IfSome lane (λ cost. cost ≤ MAX_AMOUNT) }
     ensures more { cost ≤ result }
     ensures lane { IfSome lane (λ cost. cost ≤ result) }
+    ensures least { (r : ℕ) → cost ≤ r → IfSome lane (λ cost. cost ≤ r) → result ≤ r }
     ensures small { result ≤ MAX_AMOUNT }
 {
     match lane {

@@ -5,8 +5,10 @@
 mod answer;
 mod counted;
 mod greatest;
+mod hint;
 mod known;
 mod lane_costs;
+mod near;
 mod probe;
 mod ray;
 mod reach;
@@ -14,7 +16,8 @@ mod searched;
 mod seeking;
 
 pub use answer::CenterAnswer;
-pub use counted::{curve, with_exact_count};
+pub use counted::{curve, curve_from, with_exact_count};
+pub use hint::Hint;
 pub use plan_radius::{below_cost, radius_of};
 pub use seeking::center;
 pub use tree_search::{Answer, Instance, NoMemory, Plan, Tree};

@@ -4,22 +4,31 @@ ghost use Rattle.lane_order.specs.Order.{IsOrderOf};
 ghost use Rattle.tree_search.specs.Answer.{IsWithin, IsAnswerTo};
 ghost use Rattle.center_solve.specs.Center.{root_of};
 
+use crate::hint::Hint;
+use crate::near::NearStrategy;
 use cover_strategy::{CoverStrategy, covering_of, is_count_tight};
 use instance_store::{Instance, NoMemory};
 use lane_order::LaneOrder;
 use plan_search::has_no_caps;
-use search_strategy::SearchStrategy;
+use search_strategy::{Kept, SearchStrategy};
 use std::alloc::Global;
 use tree_search::{Answer, PlainStrategy, Strategy, Tree, grow};
 
-/// What a search of the instance comes to, from the root leaf of zeros and without a plan. It fails only
-/// where memory runs out.
-pub(crate) fn searched(alloc: Global, inst: &Instance, budget: u32) -> Result<Answer, NoMemory>
+/// What a search of the instance comes to, from the root leaf of zeros and without a plan. Where there is a hint, its plan
+/// and duals are what is proposed first. It fails only where memory runs out.
+pub(crate) fn searched_from(
+    alloc: Global,
+    inst: &Instance,
+    budget: u32,
+    hint: Option<&Hint>,
+) -> Result<Answer, NoMemory>
     requires { IsWithin inst.now budget }
     ensures { IfOk result (IsAnswerTo inst.now (root_of inst.now) None budget) }
 {
     let order = LaneOrder::of(alloc, inst)?;
-    let strategy = SearchStrategy::of(alloc, inst, &order, None)?;
+    let first = SearchStrategy::of(alloc, inst, &order, kept_in(hint))?;
+    let near = near_in(hint)?;
+    let strategy = NearStrategy { near, first };
     if counts(inst) {
         let answer = counted(alloc, inst, &order, strategy, budget)?;
         return Ok(answer);
@@ -39,11 +48,32 @@ pub(crate) fn searched_freely(
     ensures { IfOk result (IsAnswerTo inst.now (root_of inst.now) None budget) }
 {
     if !counts(inst) {
-        return searched(alloc, inst, budget);
+        return searched_from(alloc, inst, budget, None);
     }
     let order = LaneOrder::of(alloc, inst)?;
     let answer = counted(alloc, inst, &order, PlainStrategy, budget)?;
     Ok(answer)
+}
+
+fn kept_in(hint: Option<&Hint>) -> Option<&Kept> {
+    match hint {
+        None => None,
+        Some(hint) => hint.kept.as_ref(),
+    }
+}
+
+fn near_in(hint: Option<&Hint>) -> Result<Option<Vec<bool>>, NoMemory> {
+    match hint {
+        None => Ok(None),
+        Some(hint) => near_once_more(&hint.near),
+    }
+}
+
+fn near_once_more(near: &Option<Vec<bool>>) -> Result<Option<Vec<bool>>, NoMemory> {
+    match near {
+        None => Ok(None),
+        Some(near) => Ok(Some(near.clone()?)),
+    }
 }
 
 // Whether the number of open sites is what makes a plan hard to find.

@@ -1,11 +1,10 @@
 //! The search for a center.
-ghost use Rattle.std.specs.Prelude.{ℕ, ◌+◌, ◌^◌, ◌<◌, ◌≤◌, IfOk};
+ghost use Rattle.std.specs.Prelude.{ℕ, ◌+◌, ◌^◌, ◌≤◌, IfOk};
 ghost use Rattle.location_terms.specs.Instance.{IsValid};
 ghost use Rattle.location_terms.specs.Plan.{IsFeasible};
 ghost use Rattle.tree_search.specs.Answer.{IsWithin, most_decisions};
-ghost use Rattle.plan_radius.specs.Radius.{IsAboveLanes};
 ghost use Rattle.center_solve.specs.declared.probe.Finding.TheVariants.{Open as StaysOpen};
-ghost use Rattle.center_solve.specs.Center.{IsCenterAnswer, CenterHolds, HasEndedSearch};
+ghost use Rattle.center_solve.specs.Center.{IsJustAboveLanes, IsCenterAnswer, CenterHolds, HasEndedSearch};
 ghost use Rattle.center_solve.specs.Probing.{IsProbeOf};
 
 use crate::CenterAnswer;
@@ -26,7 +25,8 @@ use tree_search::Tree;
 ///
 /// Probes ask whether some plan's radius is below a cost, first below more than every lane costs, and then
 /// by bisection over the costs of lanes. Each is a search of its own, of at most `budget` nodes, and the first
-/// that its budget ends without an answer ends the whole. It fails only where memory runs out.
+/// that its budget ends without an answer ends the whole. Where that is the first of all, no plan is known, and of
+/// the best radius nothing. It fails only where memory runs out.
 pub fn center(alloc: Global, inst: &Instance, budget: u32) -> Result<CenterAnswer, NoMemory>
     requires { IsWithin inst.now budget }
     ensures shown { IfOk result (IsCenterAnswer inst.now budget) }
@@ -87,8 +87,7 @@ fn open_at_first(
     probe: Tree,
 ) -> Result<CenterAnswer, NoMemory>
     requires valid { IsValid inst.now }
-    requires above { IsAboveLanes inst.now at }
-    requires positive { 0 < at }
+    requires just { IsJustAboveLanes inst.now at }
     ensures { IfOk result (λ answer. (budget : ℕ) → IsProbeOf inst.now at budget (StaysOpen probe) → IsCenterAnswer inst.now budget answer) }
 {
     let reach = at_nothing(inst);

@@ -5,7 +5,7 @@ use Rattle.center_solve.proofs.seeking.sought.Goals as goal
 
 pub returns-in-Empty-clause-shown : goal.returns-in-Empty-clause-shown
 returns-in-Empty-clause-shown c =
-    none_answer c.args.inst.now c.requires.valid c.above_lanes-at.result c.above_lanes-at.ensures.above c.args.budget c.in-Empty.tree
+    none_answer c.args.inst.now c.requires.valid c.above_lanes-at.result c.above_lanes-at.ensures c.args.budget c.in-Empty.tree
     (subst (IsProbeOf c.args.inst.now c.above_lanes-at.result c.args.budget) c.in-Empty.is c.in_ok-plan.ensures.found)
 
 pub returns-in_ok-answer-in-Open-clause-shown : goal.returns-in_ok-answer-in-Open-clause-shown
