@@ -44,7 +44,8 @@ use Rattle.dualoc_cli.specs.declared.reply.Port.TheVariants as port
 use Rattle.dualoc_cli.specs.declared.reply.Refusal.TheVariants.{LongCertificate}
 use Rattle.dualoc_cli.specs.Check.{IsAnswered, IsConfirmed}
 use Rattle.dualoc_cli.specs.Due.{PortFails, IsRefused, IsOutcomeOf, IsCause, KeepsFiles}
-use Rattle.dualoc_cli.specs.Step.{Covers, CanBePrinted, IsPrintable}
+use Rattle.dualoc_cli.specs.Reply.{CanBePrinted, IsPrintable}
+use Rattle.dualoc_cli.specs.Step.{Covers}
 use Rattle.dualoc_cli.proofs.Commands.{suited}
 
 -- the instance's file is too long, as a part of the run tells

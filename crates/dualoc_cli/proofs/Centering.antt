@@ -1,16 +1,15 @@
 -- What a search for a center comes to, and what the writing of it leaves in its three files.
-use Rattle.std.proofs.Common.{◌≡◌, ◌⊎◌, ℕ, ◌+◌, ◌*◌, ◌^◌, ◌<◌, ◌≤◌, List, [], length, take, Option, None, Some, refl, sym, ap, subst, ◌∙◌, inl, inr, arith}
+use Rattle.std.proofs.Common.{◌≡◌, ℕ, ◌+◌, ◌*◌, ◌^◌, ◌<◌, ◌≤◌, List, [], length, Option, None, Some, refl, sym, ap, subst, ◌∙◌, inl, inr, arith}
 use Rattle.std.specs.Prelude.{Result, Ok, Err, IfOk, IfSome, bytes_eq, false}
 use Rattle.std.proofs.lemmas.Nat.{mul-le}
 use Rattle.std.proofs.lemmas.List.{take_all}
 use Rattle.shelf_port.specs.Files.{Files, MayHold, LeavesPrefix, with_file, Rose, NeverFalls}
 use Rattle.shelf_port.specs.Ports.{ShelfState}
-use Rattle.location_terms.specs.declared.limits.TheConstants.{MAX_SITES}
 use Rattle.location_terms.specs.declared.claim.Claim.TheVariants.{Infeasible as NoPlan}
 use Rattle.location_terms.specs.Instance.{Instance, IsValid}
-use Rattle.location_terms.specs.Plan.{Plan, IsFeasible}
+use Rattle.location_terms.specs.Plan.{IsFeasible}
 use Rattle.location_terms.specs.Tree.{Node, Leaf, Fork, Tree, size_of, nodes_of}
-use Rattle.location_terms.specs.Certificate.{Certificate, IsAccepted}
+use Rattle.location_terms.specs.Certificate.{Certificate}
 use Rattle.branch_tree.specs.declared.limits.TheConstants.{MAX_TREE_NUMBERS}
 use Rattle.instance_text.proofs.ReadBack.{own_text_means}
 use Rattle.instance_text.proofs.Lengths.{own_text_short}
@@ -18,7 +17,6 @@ use Rattle.dual_value.specs.Zeros.{zeros}
 use Rattle.certificate_lines.specs.Follow.{HasText}
 use Rattle.certificate_lines.specs.Length.{SplitsUndecided, DecidesOnce}
 use Rattle.certificate_lines.specs.Text.{certificate_text}
-use Rattle.certificate_lines.specs.declared.limits.TheConstants.{MAX_CERTIFICATE_BYTES}
 use Rattle.certificate_lines.proofs.Lengths.{short_text}
 use Rattle.certificate_lines.proofs.Once.{few_where_once}
 use Rattle.tree_search.specs.Answer.{IsWithin, most_decisions}
@@ -28,7 +26,7 @@ use Rattle.plan_radius.specs.Cheaper.{below_cost}
 use Rattle.plan_radius.proofs.Thresholds.{valid_below}
 use Rattle.center_solve.specs.declared.answer.CenterAnswer.{CenterAnswer}
 use Rattle.center_solve.specs.declared.answer.CenterAnswer.TheVariants.{Best, Infeasible, Open}
-use Rattle.center_solve.specs.Center.{with_exact_count, ShowsNoPlan, root_of, probed, IsTreeOfProbe, IsCenterAnswer, CenterHolds, HasEndedSearch}
+use Rattle.center_solve.specs.Center.{ShowsNoPlan, root_of, probed, IsTreeOfProbe, IsCenterAnswer, CenterHolds, HasEndedSearch}
 use Rattle.dualoc_cli.specs.Command.{ResultFiles, Center}
 use Rattle.dualoc_cli.specs.declared.reply.Reply.{Reply}
 use Rattle.dualoc_cli.specs.declared.reply.CenterEnd.{CenterEnd}

@@ -31,7 +31,7 @@ capacity_small option = by _ (amount_of (drop 9 option)) (amount_of-small (drop 
     by true (Err fault) small = tt
     by false read small = tt
 
-abbrev IsFew : Option ℕ → Type 0
+abbrev pub IsFew : Option ℕ → Type 0
 IsFew count = IfSome count (λ n. n ≤ MAX_SITES)
 
 few_small : (n : ℕ) → IsFew (few_sites n)
@@ -57,10 +57,10 @@ few_once true None given few = few
 few_once true (Some n) given few = tt
 few_once false before given few = tt
 
-abbrev HasSmallNumbers : Options → Type 0
+abbrev pub HasSmallNumbers : Options → Type 0
 HasSmallNumbers o = IsSmall o.capacity × IsFew o.count
 
-abbrev AreSmall : Option Options → Type 0
+abbrev pub AreSmall : Option Options → Type 0
 AreSmall options = IfSome options HasSmallNumbers
 
 -- what an option gives is small where it is
@@ -101,7 +101,7 @@ from_small takes old [] small = small
 from_small takes old (word ∷ words) small =
     next_small (λ o. options_from takes o words) (with_option takes word old) (with_small takes word old small) (λ o s. from_small takes o words s)
 
-options_small : (takes : Takes) (words : List (List ℕ)) → AreSmall (options_of takes words)
+pub options_small : (takes : Takes) (words : List (List ℕ)) → AreSmall (options_of takes words)
 options_small takes words = from_small takes (options_with None None None) words (tt, tt)
 
 -- Commands.

@@ -1,5 +1,5 @@
 -- The lines of a curve, one behind the other.
-use Rattle.std.proofs.Common.{◌≡◌, ℕ, zero, suc, ◌+◌, ◌^◌, ◌<◌, ◌≤◌, List, [], ◌++◌, length, take, None, refl, sym, ap, subst, ◌∙◌, arith}
+use Rattle.std.proofs.Common.{◌≡◌, ℕ, suc, ◌+◌, ◌^◌, ◌<◌, ◌≤◌, List, [], ◌++◌, length, take, None, refl, sym, ap, subst, ◌∙◌, arith}
 use Rattle.shelf_port.specs.Files.{Rose}
 use Rattle.shelf_port.specs.Streams.{with_back, RefusedLast}
 use Rattle.shelf_port.specs.Ports.{SinkState}
@@ -15,7 +15,6 @@ use Rattle.center_solve.specs.Center.{with_exact_count, root_of}
 use Rattle.dualoc_cli.specs.declared.halt.Halt.{Halt}
 use Rattle.dualoc_cli.specs.declared.halt.Halt.TheVariants as halt
 use Rattle.dualoc_cli.specs.Curve.{curve_line, IsNoBracket, IsCurveLine, AreCurveLines}
-use Rattle.dualoc_cli.specs.Talk.{GainsWhole, GainsFront}
 use Rattle.dualoc_cli.specs.Drawing.{HasDrawn, IsLineCut, IsUndrawn, HasDrawnLines, IsCurveHalted}
 use Rattle.dualoc_cli.proofs.Gaining.{back_more, gains_more, none_gained, rose_since, refused_since}
 use Rattle.dualoc_cli.proofs.Searching.{found_at_zeros}

@@ -1,6 +1,6 @@
 -- What is due for the words of a run, and that it ends so, unless it is hindered.
-use Rattle.std.proofs.Common.{◌≡◌, ◌⊎◌, ℕ, ◌+◌, ◌^◌, ◌<◌, ◌≤◌, List, ◌++◌, length, Option, None, Some, Result, Ok, Err, sym, refl, ap, ◌∙◌, subst, inl, inr, arith}
-use Rattle.std.specs.Prelude.{if◌then◌else◌, nat_lt, Bool, true, false, MatchBool}
+use Rattle.std.proofs.Common.{false, ◌≡◌, ◌⊎◌, ℕ, ◌+◌, ◌^◌, ◌<◌, ◌≤◌, List, ◌++◌, length, Option, None, Some, Result, Ok, Err, sym, refl, ap, ◌∙◌, subst, inl, inr, arith}
+use Rattle.std.specs.Prelude.{if◌then◌else◌, nat_lt}
 use Rattle.std.specs.FinMap.{get}
 use Rattle.std.proofs.lemmas.Bool.{lt-ltb, cond-true, cond-false, false_from_ne_true, ltb-true, cases_lt}
 use Rattle.shelf_port.specs.Files.{MayHold}
@@ -26,6 +26,7 @@ use Rattle.location_terms.specs.declared.claim.Claim.{Claim}
 use Rattle.location_terms.specs.declared.claim.Claim.TheVariants as claimed
 use Rattle.tree_search.specs.Answer.{cost_in, most_decisions}
 use Rattle.dualoc_cli.proofs.Causes.{task_valid}
+use Rattle.dualoc_cli.proofs.Ending.{MayEnd, given_end, some_end, stop_once}
 use Rattle.dualoc_cli.proofs.Searching.{tree_small}
 use Rattle.certificate_lines.specs.Text.{certificate_text}
 use Rattle.fixed_cost.specs.declared.limits.TheConstants.{MAX_INSTANCE_BYTES}
@@ -54,14 +55,14 @@ use Rattle.dualoc_cli.specs.Search.{budget_given, HasLargeBudget, IsSearched, Is
 use Rattle.dualoc_cli.specs.Check.{IsAnswered, DeservesYes, IsChecked}
 use Rattle.dualoc_cli.specs.Session.{StopsAt, stop_status}
 use Rattle.dualoc_cli.specs.declared.words.CostAt.{CostAt}
-use Rattle.dualoc_cli.specs.Range.{HasCost, AsksRange, ProofFails, HasLongProof, IsProofAnswered, HasProof, optimum_of, ClaimsOptimum, HasNoOptimum, HasNoCost, IsRanged, IsRangeDue}
-use Rattle.dualoc_cli.proofs.Ranging.{RangeStatus, RangeDue, status_in, range_status_once, some_range_status, ranged_status, lacking_status, no_optimum_status, lacks_site, lacks_customer, lacks_lane, range_due_once}
+use Rattle.dualoc_cli.specs.Range.{HasCost, AsksRange, HasLongProof, IsProofAnswered, HasProof, optimum_of, HasNoOptimum, HasNoCost, IsRanged, IsRangeDue}
+use Rattle.dualoc_cli.proofs.Ranging.{RangeStatus, RangeDue, status_in, some_range_status, ranged_status, lacking_status, no_optimum_status, lacks_site, lacks_customer, lacks_lane, range_due_once}
 use Rattle.dualoc_cli.specs.Trial.{HasTrial, HasPlan, IsTrialAnswer, EndsTrial}
 use Rattle.dualoc_cli.specs.Center.{counted_by, center_end, IsCentered}
 use Rattle.dualoc_cli.specs.Curve.{IsCurveRow}
 use Rattle.dualoc_cli.specs.Due.{PortFails, IsRefused, IsOutcomeOf, IsCause, IsPrinted, EndsWithoutMemory, EndsInRow, EndsInCurve, Ends, IsRefusalStatus, IsResult, IsSettledAtStart, IsTold, IsHindered, MemoryRanOut, PortFailed, OutputFailed, RowRefused, EndsAs, EndsAsInput, IsComplete}
 use Rattle.whatif_session.specs.Input.{session_limits, input_lines, is_ended_by_quit}
-use Rattle.whatif_session.specs.Run.{Stop, AtEnd, AtLongLine, AtLongInput, IsDueStop, MayGive, stop_at}
+use Rattle.whatif_session.specs.Run.{Stop, AtEnd, AtLongLine, AtLongInput, IsDueStop, stop_at}
 use Rattle.tree_search.specs.Budget.{max_budget, budget_in}
 use Rattle.trial_instance.specs.Trial.{trial_meaning}
 
@@ -106,28 +107,6 @@ data Due : Type 0 where
   Search : (I : Instance) (budget : ℕ) → Due
   Trial : (I : Instance) (budget : ℕ) → Due
   AsInput : Due
-
--- an input that is told ends a session so; one that isn't may end it in each way
-abbrev MayEnd : Option (List ℕ) → Stop → Type 0
-MayEnd None stop = Unit {0}
-MayEnd (Some bytes) stop = IsDueStop session_limits bytes stop
-
-given_end : (told : Option (List ℕ)) (bytes : List ℕ) (stop : Stop) → MayGive told bytes → IsDueStop session_limits bytes stop → MayEnd told stop
-given_end None bytes stop given due = tt
-given_end (Some other) bytes stop given due = subst (λ b. IsDueStop session_limits b stop) (sym given) due
-
--- there is one way, and only one where the input is told
-stop_by : (quit : Bool) (other : Stop) → (stop : Stop) × MatchBool quit (stop ≡ AtEnd) (stop ≡ other)
-stop_by true other = (AtEnd, refl)
-stop_by false other = (other, refl)
-
-some_end : (told : Option (List ℕ)) → (stop : Stop) × MayEnd told stop
-some_end None = (AtEnd, tt)
-some_end (Some bytes) = stop_by (is_ended_by_quit session_limits bytes) (stop_at (input_lines session_limits bytes).ends)
-
-stop_once : (quit : Bool) (other one two : Stop) → MatchBool quit (one ≡ AtEnd) (one ≡ other) → MatchBool quit (two ≡ AtEnd) (two ≡ other) → one ≡ two
-stop_once true other one two p q = p ∙ sym q
-stop_once false other one two p q = p ∙ sym q
 
 -- the status suits what is due, of an input of which this is told
 abbrev Suits : Option (List ℕ) → Due → Status → Type 0

@@ -6,8 +6,10 @@ pub mod Commands
 pub mod Converting
 pub mod Drawn
 pub mod Dues
+pub mod Ending
 pub mod Gaining
 pub mod Giving
+pub mod NextLines
 pub mod NoCommands
 pub mod Outcomes
 pub mod Parts

@@ -1,5 +1,5 @@
 -- From a part of a run, by what it is asked for, to how the run ends.
-use Rattle.std.proofs.Common.{◌≡◌, ◌⊎◌, ℕ, ◌+◌, ◌≤◌, List, [], ◌++◌, take, Option, None, Some, Result, Ok, Err, refl, sym, ap, ◌∙◌, subst, inl, inr, arith}
+use Rattle.std.proofs.Common.{◌≡◌, ℕ, ◌+◌, ◌≤◌, List, [], ◌++◌, take, Option, None, Some, Result, Ok, Err, refl, sym, ap, ◌∙◌, subst, inl, inr, arith}
 use Rattle.std.specs.Prelude.{IfOk, IfErr}
 use Rattle.shelf_port.specs.Files.{Rose}
 use Rattle.shelf_port.specs.Streams.{with_back, RefusedLast}
@@ -23,7 +23,7 @@ use Rattle.dualoc_cli.specs.Reply.{status_of}
 use Rattle.dualoc_cli.specs.Run.{Run, HasTask, ChangesNoFile, LeavesInput}
 use Rattle.dualoc_cli.specs.Session.{IsSessionRow, StopsAt, HoldsSession, RowEnd, AfterSession, AfterCurve, row_end}
 use Rattle.dualoc_cli.specs.Curve.{HasCurveTask, AreCurveLines, IsCurveRow, IsWholeCurve}
-use Rattle.dualoc_cli.specs.Drawing.{IsCurveForgotten, IsCurveCut, IsCurveHalted, IsCurveWhole, IsCurveReply, IsCurveUnanswered, HasDrawnLines}
+use Rattle.dualoc_cli.specs.Drawing.{IsCurveHalted, IsCurveWhole, IsCurveReply, IsCurveUnanswered}
 use Rattle.dualoc_cli.proofs.Searching.{large_for}
 use Rattle.tree_search.specs.Budget.{max_budget, budget_in}
 use Rattle.dualoc_cli.specs.Due.{IsCause, IsRefusalStatus, RowBefore, UntouchedBefore, ReadsNoLine, KeepsFiles, KeepsInput, Leaves}

@@ -30,7 +30,8 @@ printed_behind row text due status old mid new gains (inr cut) =
       status_is = elim cut.status_is [ inl failed ↦ inl (rose_since old.faults mid.faults new.faults gains.counts failed.0, failed.1) | inr out ↦ inr out ];
     })
 
-cut_by : (rose : Type 0) (fault : SinkFault) (status : Status) → (fault ≡ sink.Failed → rose) → status ≡ cut_status fault → (rose × (status ≡ when_cut Done)) ⊎ (status ≡ NoMemory)
+-- the status of a run whose output refused a reply in a row
+pub cut_by : (rose : Type 0) (fault : SinkFault) (status : Status) → (fault ≡ sink.Failed → rose) → status ≡ cut_status fault → (rose × (status ≡ when_cut Done)) ⊎ (status ≡ NoMemory)
 cut_by rose sink.Failed status failed is = inl (failed refl, is)
 cut_by rose sink.NoMemory status failed is = inr is
 

@@ -8,10 +8,10 @@ use Rattle.shelf_port.specs.Files.{Files, HasFile, MayHold, Rose}
 use Rattle.shelf_port.specs.Memory.{files_of_list}
 use Rattle.shelf_port.specs.Ports.{ShelfState}
 use Rattle.location_terms.specs.Instance.{Instance, IsValid}
-use Rattle.location_terms.specs.Plan.{Plan, IsFeasible, cost_of}
+use Rattle.location_terms.specs.Plan.{Plan, cost_of}
 use Rattle.location_terms.specs.Optimal.{IsOptimal}
 use Rattle.location_terms.specs.Tree.{Tree}
-use Rattle.location_terms.specs.Certificate.{Certificate, IsAccepted, Shows, Costs}
+use Rattle.location_terms.specs.Certificate.{Certificate, IsAccepted}
 use Rattle.location_terms.specs.declared.claim.Claim.{Claim}
 use Rattle.location_terms.specs.declared.claim.Claim.TheVariants as claimed
 use Rattle.certificate_lines.specs.Text.{certificate_text}
@@ -21,10 +21,10 @@ use Rattle.certificate_text.proofs.OneText.{alike}
 use Rattle.certificate_lines.specs.declared.kind.CertKind.{CertKind}
 use Rattle.certificate_lines.specs.declared.fault.CertFault.TheVariants.{Text}
 use Rattle.certificate_check.specs.declared.verdict.Why.{Why}
-use Rattle.certificate_check.specs.declared.verdict.Verdict.TheVariants.{Yes, No}
+use Rattle.certificate_check.specs.declared.verdict.Verdict.TheVariants.{No}
 use Rattle.certificate_check.specs.Verdict.{Answer, IsAnswer, IsUnread}
 use Rattle.certificate_check.proofs.Judged.{has_text}
-use Rattle.range_scan.specs.Range.{IsProvedOptimal, IsInRange, IsCostRange}
+use Rattle.range_scan.specs.Range.{IsInRange, IsCostRange}
 use Rattle.location_terms.specs.Instance.{fixed_of}
 use Rattle.instance_store.specs.Changes.{with_fixed}
 use Rattle.instance_store.specs.declared.memory.NoMemory.{NoMemory}
@@ -39,7 +39,6 @@ use Rattle.dualoc_cli.specs.declared.words.CostAt.{CostAt}
 use Rattle.dualoc_cli.specs.declared.words.CostAt.TheVariants.{Site, Lane}
 use Rattle.dualoc_cli.specs.Command.{ShowRange}
 use Rattle.dualoc_cli.specs.Run.{Run, HasTask}
-use Rattle.dualoc_cli.specs.Check.{DeservesYes}
 use Rattle.dualoc_cli.specs.Range.{HasCost, LacksCost, present_cost, with_cost, AsksRange, IsProofAnswered, HasProof, optimum_of, ClaimsOptimum, HasNoOptimum, HasNoCost, IsRanged}
 use Rattle.dualoc_cli.specs.Due.{PortFails, IsRefused, IsOutcomeOf, IsCause}
 use Rattle.dualoc_cli.specs.Step.{Covers, InRuns}
@@ -120,6 +119,24 @@ text_back None text has = absurd has
 text_back (Some bytes) text has = ap Some has
 
 module _ (I : Instance) (at : CostAt) (files : Files) (name : List ℕ) where
+  -- what a reply to the file's bytes is, where they are those of such files
+  abbrev IsAnsweredBy : Files → Result Reply NoMemory → Type 0
+  IsAnsweredBy held result = IfOk result (λ reply. (r : Run) (bytes : List ℕ) → get held name ≡ Some bytes → length bytes ≤ MAX_CERTIFICATE_BYTES → AsksRange r I at bytes → IsCause r reply)
+
+  -- the certificate that was read is accepted, and its cause is that of the bytes
+  pub by_read : (back : Certificate) → get files name ≡ Some (certificate_text I back) → HasText I back → IsAccepted I back → (result : Result Reply NoMemory)
+      → IfOk result (λ reply. (r : Run) → HasProof r I at back → IsCause r reply)
+      → IsAnsweredBy files result
+  by_read back held has accepted (Ok reply) is =
+      λ r bytes kept within asks.
+      let same = same_some bytes (certificate_text I back) (get files name) kept held in
+      is r
+      (record {
+        asked = subst (AsksRange r I at) same asks;
+        deserved = record { accepted = accepted; small = has.costs; within = subst (λ b. length b ≤ MAX_CERTIFICATE_BYTES) same within };
+      })
+  by_read back held has accepted (Err fault) is = tt
+
   -- the checker said yes to this claim
   abbrev SaidYes : Claim → Type 0
   SaidYes claim =
@@ -141,20 +158,15 @@ module _ (I : Instance) (at : CostAt) (files : Files) (name : List ℕ) where
     pub accepted_back : IsAccepted I back
     accepted_back = subst (IsAccepted I) same yes.2
 
-    deserves : DeservesYes I back
-    deserves = subst (DeservesYes I) same (record { accepted = yes.2; small = subst HasSmallCosts (sym yes.3) yes.4; within = yes.5 })
-
-    pub proof_back : (r : Run) (bytes : List ℕ) → get files name ≡ Some bytes → AsksRange r I at bytes → HasProof r I at back
-    proof_back r bytes kept asks =
-        record {
-          asked = subst (AsksRange r I at) (same_some bytes (certificate_text I back) (get files name) kept held) asks;
-          deserved = deserves;
-        }
-
     pub by_back : (result : Result Reply NoMemory) → IfOk result (λ reply. (r : Run) → HasProof r I at back → IsCause r reply)
-        → IfOk result (λ reply. (r : Run) (bytes : List ℕ) → get files name ≡ Some bytes → length bytes ≤ MAX_CERTIFICATE_BYTES → AsksRange r I at bytes → IsCause r reply)
-    by_back (Ok reply) is = λ r bytes kept within asks. is r (proof_back r bytes kept asks)
-    by_back (Err fault) is = tt
+        → IsAnsweredBy files result
+    by_back = by_read back held has accepted_back
+
+  -- what is answered by the files behind a call that changed none is answered by those before it
+  pub by_same : (now : Files) → ◌≡◌ {A = Option Files} (Some now) (Some files) → (result : Result Reply NoMemory)
+      → IsAnsweredBy now result
+      → IsAnsweredBy files result
+  by_same now unchanged result is = subst (λ f. IsAnsweredBy f result) (same_files now files unchanged) is
 
   abbrev Said : Answer → Type 0
   Said answer = IsUnread answer ⊎ ((bytes : List ℕ) × MayHold (Some files) name bytes × IsAnswer MAX_CERTIFICATE_BYTES I bytes answer)

@@ -6,7 +6,7 @@ use Rattle.whatif_session.specs.State.{SessionState}
 use Rattle.whatif_session.specs.Step.{Moment, SessionStep, Does}
 use Rattle.whatif_session.specs.Run.{due_file}
 
-asks : (asked : Option SessionLine) → asks_to_quit asked ≡ true → asked ≡ Some Quit
+pub asks : (asked : Option SessionLine) → asks_to_quit asked ≡ true → asked ≡ Some Quit
 asks None quit = absurd (cc)
 asks (Some Quit) quit = refl
 asks (Some Blank) quit = absurd (cc)

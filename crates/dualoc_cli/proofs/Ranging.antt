@@ -1,13 +1,12 @@
 -- Which status a range has, by what the checker answers to its certificate.
-use Rattle.std.proofs.Common.{◌≡◌, ◌⊎◌, ℕ, ◌<◌, ◌≤◌, List, length, Option, None, Some, Result, Ok, Err, sym, refl, ap, ◌∙◌, subst, inl, inr, arith}
-use Rattle.std.specs.Prelude.{IsSome, IsNone, Contains}
+use Rattle.std.proofs.Common.{◌≡◌, ◌⊎◌, ℕ, ◌<◌, ◌≤◌, List, length, Option, None, Some, Ok, Err, sym, refl, ap, ◌∙◌, subst, inl, inr, arith}
+use Rattle.std.specs.Prelude.{IsSome, IsNone}
 use Rattle.location_terms.specs.Instance.{Instance, IsValid, site_ids, lane}
 use Rattle.std.proofs.lemmas.Bool.{false≢true}
 use Rattle.location_terms.proofs.Membership.{has_or_lacks}
 use Rattle.location_terms.specs.declared.claim.Claim.{Claim}
 use Rattle.location_terms.specs.declared.claim.Claim.TheVariants as claimed
 use Rattle.certificate_lines.specs.declared.limits.TheConstants.{MAX_CERTIFICATE_BYTES}
-use Rattle.certificate_lines.specs.declared.fault.CertFault.{CertFault}
 use Rattle.certificate_lines.specs.declared.fault.CertFault.TheVariants.{Text, TooLong, ReadFailed}
 use Rattle.certificate_lines.specs.declared.fault.CertFault.TheVariants as unread
 use Rattle.certificate_check.specs.declared.verdict.Verdict.TheVariants.{Yes, No}

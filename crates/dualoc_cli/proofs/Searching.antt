@@ -1,6 +1,6 @@
 -- What a search may start from, and what it comes to.
 use Rattle.std.proofs.Common.{◌≡◌, ◌↔◌, ℕ, zero, suc, ◌+◌, ◌^◌, ◌<◌, ◌≤◌, false, [], ◌∷◌, Option, None, Some, refl, sym, subst, inl, inr, arith}
-use Rattle.std.specs.Prelude.{ℤ, Result, Ok, Err, IfOk, IfSome, IsTrue, slice_get, if◌then◌else◌}
+use Rattle.std.specs.Prelude.{ℤ, Result, Ok, Err, IfOk, IfSome, IsTrue, slice_get}
 use Rattle.std.proofs.Math.Nat.{min-le_left}
 use Rattle.std.proofs.lemmas.List.Elements.{All-nil, All-cons}
 use Rattle.location_terms.specs.Instance.{Instance, IsValid}

@@ -1,5 +1,6 @@
 -- What a run answers: the status of a reply, and its text.
 use Rattle.std.specs.Prelude.{ℕ, List, [], ◌++◌, Some, codes, decimal}
+use Rattle.location_terms.specs.Plan.{IsFeasible}
 use Rattle.location_terms.specs.declared.claim.Claim.{Claim}
 use Rattle.location_terms.specs.declared.claim.Claim.TheVariants as claims
 use Rattle.location_terms.specs.declared.claim.Claim.TheVariants.{Optimal}
@@ -9,7 +10,7 @@ use Rattle.number_words.specs.Number.{number_text}
 use Rattle.plan_meaning.specs.PlanFault.{fault_name}
 use Rattle.fixed_cost.specs.Claim.{claim_text}
 use Rattle.report.specs.PlanText.{plan_text_of}
-use Rattle.report.specs.DualsText.{duals_text_of}
+use Rattle.report.specs.DualsText.{ArePrintable, duals_text_of}
 use Rattle.center_text.specs.declared.claim.RadiusClaim.TheVariants as radius
 use Rattle.center_text.specs.CenterText.{radius_text}
 use Rattle.certificate_lines.specs.Kind.{cert_kind_name}
@@ -150,3 +151,13 @@ text_of NoCommand = codes "usage\n"
 text_of (Failed at) = failed_text at
 text_of (Refused refusal) = refused_text refusal
 text_of (Reached outcome) = outcome_text outcome
+
+-- the text of the reply can be made: its plan is one of its instance, and its duals can be printed
+abbrev pub CanBePrinted : Outcome → Type 0
+CanBePrinted (Optimum I P cost) = IsFeasible I P
+CanBePrinted (Ascent I d) = ArePrintable I d
+CanBePrinted outcome = Unit {0}
+
+abbrev pub IsPrintable : Reply → Type 0
+IsPrintable (Reached outcome) = CanBePrinted outcome
+IsPrintable reply = Unit {0}

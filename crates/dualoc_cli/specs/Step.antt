@@ -8,17 +8,12 @@ use Rattle.shelf_port.specs.declared.fault.SinkFault.{SinkFault}
 use Rattle.shelf_port.specs.declared.fault.SinkFault.TheVariants as sink
 use Rattle.location_terms.specs.declared.limits.TheConstants.{MAX_SITES}
 use Rattle.location_terms.specs.Instance.{AreSizes}
-use Rattle.location_terms.specs.Plan.{IsFeasible}
 use Rattle.instance_store.specs.Small.{IsSmall}
-use Rattle.report.specs.DualsText.{ArePrintable}
 use Rattle.instance_forms.specs.declared.form.FileForm.TheVariants.{Ufl}
 use Rattle.instance_forms.specs.Forms.{InstanceFile, file_in}
 use Rattle.dualoc_cli.specs.declared.status.Status.{Status}
 use Rattle.dualoc_cli.specs.declared.status.Status.TheVariants.{WriteFault, NoMemory}
 use Rattle.dualoc_cli.specs.declared.reply.Reply.{Reply}
-use Rattle.dualoc_cli.specs.declared.reply.Reply.TheVariants.{Reached}
-use Rattle.dualoc_cli.specs.declared.reply.Outcome.{Outcome}
-use Rattle.dualoc_cli.specs.declared.reply.Outcome.TheVariants.{Optimum, Ascent}
 use Rattle.dualoc_cli.specs.declared.words.Command as told
 use Rattle.dualoc_cli.specs.declared.words.Command.TheVariants as words_in_memory
 use Rattle.dualoc_cli.specs.declared.words.FileJob as told_file_job
@@ -166,13 +161,3 @@ cut_status sink.NoMemory = NoMemory
 -- what a part of a run keeps of the files and of the input
 abbrev pub KeepsAll : Run → Type 0
 KeepsAll r = Leaves r (command_of r.words) × KeepsInput r (command_of r.words)
-
--- the text of the reply can be made: its plan is one of its instance, and its duals can be printed
-abbrev pub CanBePrinted : Outcome → Type 0
-CanBePrinted (Optimum I P cost) = IsFeasible I P
-CanBePrinted (Ascent I d) = ArePrintable I d
-CanBePrinted outcome = Unit {0}
-
-abbrev pub IsPrintable : Reply → Type 0
-IsPrintable (Reached outcome) = CanBePrinted outcome
-IsPrintable reply = Unit {0}

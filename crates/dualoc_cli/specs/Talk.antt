@@ -3,7 +3,7 @@
 use Rattle.std.specs.Prelude.{◌≡◌, ℕ, Bool, ◌+◌, ◌-◌, ◌<◌, ◌≤◌, List, [], ◌∷◌, ◌++◌, length, take, Some, option_map, false}
 use Rattle.shelf_port.specs.Files.{Rose, NeverFalls}
 use Rattle.shelf_port.specs.Streams.{with_front, with_back, RefusedLast}
-use Rattle.shelf_port.specs.Ports.{ShelfState, SinkState, Ports}
+use Rattle.shelf_port.specs.Ports.{ShelfState, SourceState, SinkState, Ports}
 use Rattle.shelf_port.specs.declared.fault.SinkFault.{SinkFault}
 use Rattle.shelf_port.specs.declared.fault.SinkFault.TheVariants as sink
 use Rattle.shelf_lines.specs.Line.{IsLine}
@@ -40,6 +40,15 @@ limits_at line input = record { line = line; input = input }
 -- the limits that a reader at the front of an input has
 abbrev pub limits_of : InputState → InputLimits
 limits_of reader = limits_at reader.most (unread reader.lines - 1)
+
+-- these lines of an input were read, and no limit was passed: so much is left of it, and of the limit
+pub record HasRead (limits : InputLimits) (before now : SourceState) (reader : InputState) (lines : List (List ℕ)) : Type 0 where
+  pub left : ℕ
+  pub read : AreRead limits.line limits.input lines left
+  pub unread_is : unread reader.lines ≡ left + 1
+  pub most : reader.most ≡ limits.line
+  pub told : before.left ≡ option_map (with_lines lines) (with_front reader.lines.ahead now.left)
+  pub counts : before.faults ≤ now.faults
 
 -- What was written.
 
@@ -99,13 +108,8 @@ pub record HasStepped (limits : InputLimits) (I : Instance) (from now : Ports) (
   pub files_before : first.files ≡ from.shelf.files
   pub since : NeverFalls from.shelf.writes first.failed_writes
   pub steps : StepsThrough first lines row (moment_at present.state now.shelf)
-  pub left : ℕ
-  pub read : AreRead limits.line limits.input lines left
-  pub unread_is : unread reader.lines ≡ left + 1
-  pub most : reader.most ≡ limits.line
-  pub told : from.input.left ≡ option_map (with_lines lines) (with_front reader.lines.ahead now.input.left)
-  pub counts : from.input.faults ≤ now.input.faults
-  pub serial : last_serial present.state + left ≤ limits.input
+  pub heard : HasRead limits from.input now.input reader lines
+  pub serial : last_serial present.state + heard.left ≤ limits.input
   pub gains : GainsWhole row from.output now.output
 
 -- a session stopped so between these ports, and its replies in a row were written

@@ -1,16 +1,17 @@
 //! The command `curve`: what a plan costs at least for each number of open sites. Each line is printed once
 //! its search has ended.
-ghost use Rattle.std.specs.Prelude.{◌≡◌, ◌≤◌, IfOk, IfErr};
+ghost use Rattle.std.specs.Prelude.{◌≡◌, ◌+◌, ◌^◌, ◌≤◌, None, IfOk, IfErr};
 ghost use Rattle.shelf_port.specs.Ports.{sink_state};
 ghost use Rattle.location_terms.specs.declared.limits.TheConstants.{MAX_SITES};
-ghost use Rattle.tree_search.specs.Answer.{IsWithin};
+ghost use Rattle.tree_search.specs.Answer.{IsWithin, IsAnswerTo, IsDecided, most_decisions};
+ghost use Rattle.center_solve.specs.Center.{with_exact_count, root_of};
 ghost use Rattle.dualoc_cli.specs.Curve.{IsCurveLine, curve_line};
 ghost use Rattle.dualoc_cli.specs.Drawing.{HasDrawn, IsUndrawn, IsCurveWhole, IsCurveHalted, IsCurveReply, IsCurveUnanswered};
 
 use crate::halt::Halt;
 use crate::reply::{Outcome, Refusal, Reply};
 use crate::words::CurveTask;
-use center_solve::{curve, with_exact_count};
+use center_solve::{Answer, Hint, curve_from, with_exact_count};
 use fixed_cost::push_claim;
 use instance_store::{Instance, NoMemory};
 use location_terms::Claim;
@@ -60,20 +61,23 @@ fn draw_lines<O: Sink>(
         (sink_state (O.written out.old) (O.faults out.old) (O.refusals out.old))
         (sink_state (O.written out.new) (O.faults out.new) (O.refusals out.new))) }
 {
+    let mut hint = None;
     for more in 0..last + 1 - first {
-        draw_line(alloc, inst, first + more, budget, out)?;
+        let next = draw_line(alloc, inst, first + more, budget, hint.as_ref(), out)?;
+        hint = Some(next);
     }
     Ok(())
 }
 
-// Prints the line of a number of sites.
+// Prints the line of a number of sites, and gives the hint for the next one.
 fn draw_line<O: Sink>(
     alloc: Global,
     inst: &Instance,
     count: u32,
     budget: u32,
+    hint: Option<&Hint>,
     out: &mut O,
-) -> Result<(), Halt>
+) -> Result<Hint, Halt>
     requires few { count ≤ MAX_SITES }
     requires within { IsWithin inst.now budget }
     ensures drawn { IfOk result (λ done. HasDrawn inst.now budget count
@@ -83,21 +87,30 @@ fn draw_line<O: Sink>(
         (sink_state (O.written out.old) (O.faults out.old) (O.refusals out.old))
         (sink_state (O.written out.new) (O.faults out.new) (O.refusals out.new))) }
 {
-    let line = line(alloc, inst, count, budget)?;
+    let answer = curve_from(alloc, inst, count, budget, hint)?;
+    let line = line(alloc, inst, count, budget, &answer)?;
+    let next = Hint::of(alloc, inst, &answer)?;
     write_whole(out, &line)?;
-    Ok(())
+    Ok(next)
 }
 
 // The line of what a search comes to where a plan opens just so many sites.
-fn line(alloc: Global, inst: &Instance, count: u32, budget: u32) -> Result<Vec<u8>, NoMemory>
+fn line(
+    alloc: Global,
+    inst: &Instance,
+    count: u32,
+    budget: u32,
+    answer: &Answer,
+) -> Result<Vec<u8>, NoMemory>
     requires few { count ≤ MAX_SITES }
     requires within { IsWithin inst.now budget }
+    requires answer { IsAnswerTo (with_exact_count inst.now count) (root_of (with_exact_count inst.now count)) None budget answer.now }
+    requires decided { 2 ^ (most_decisions inst.now + 1) ≤ budget → IsDecided answer.now }
     ensures { IfOk result (λ text. IsCurveLine inst.now budget count text.items) }
 {
     let counted = with_exact_count(alloc, inst, count)?;
     // An instance is valid.
     let _sites = counted.sites();
-    let answer = curve(alloc, inst, count, budget)?;
     let text = line_of(
         alloc,
         count,

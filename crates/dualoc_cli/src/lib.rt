@@ -26,5 +26,10 @@ mod trial;
 mod words;
 
 pub use fixed_cost::MAX_INSTANCE_BYTES;
+pub use halt::Halt;
+pub use options::{Options, Takes};
 pub use program::run;
+pub use reply::{Outcome, Port, Refusal, Reply};
 pub use status::Status;
+pub use text::reply_text;
+pub use words::are_names;

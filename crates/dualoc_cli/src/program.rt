@@ -1,16 +1,16 @@
 //! A whole run of the program.
 ghost use Rattle.std.specs.Prelude.{◌≡◌, ◌⊎◌, [], codes, map, string_bytes};
 ghost use Rattle.shelf_port.specs.Ports.{shelf_state, source_state, sink_state, ports_of};
-ghost use Rattle.dualoc_cli.specs.Reply.{status_of, text_of};
+ghost use Rattle.dualoc_cli.specs.Reply.{status_of, text_of, IsPrintable};
 ghost use Rattle.dualoc_cli.specs.Run.{run_of};
 ghost use Rattle.dualoc_cli.specs.Due.{Runs, IsPrinted};
-ghost use Rattle.dualoc_cli.specs.Step.{IsPrintable, cut_status};
+ghost use Rattle.dualoc_cli.specs.Step.{cut_status};
 
 use crate::halt::Halt;
 use crate::reply::Reply;
 use crate::status::Status;
 use crate::task::reply_to;
-use crate::text::text;
+use crate::text::reply_text;
 use instance_store::NoMemory;
 use shelf_port::{Shelf, Sink, SinkFault, Source, write_whole};
 use std::alloc::Global;
@@ -62,7 +62,7 @@ fn print_reply<O: Sink>(alloc: Global, out: &mut O, reply: &Reply) -> Status
         (sink_state (O.written out.old) (O.faults out.old) (O.refusals out.old))
         (sink_state (O.written out.new) (O.faults out.new) (O.refusals out.new)) }
 {
-    match text(alloc, reply) {
+    match reply_text(alloc, reply) {
         Ok(text) => print(out, reply.status(), &text),
         Err(NoMemory) => print(out, Status::NoMemory, b"no memory\n"),
     }

@@ -1,5 +1,5 @@
 //! The command `range`: how far a cost may move while the plan of a certificate stays proved optimal.
-ghost use Rattle.std.specs.Prelude.{◌≡◌, ◌≤◌, ℕ, List, Some, IfOk, IfErr, length};
+ghost use Rattle.std.specs.Prelude.{◌≡◌, ◌≤◌, ℕ, List, Some, IfOk, IfErr, IsTrue, length};
 ghost use Rattle.std.specs.FinMap.{get};
 ghost use Rattle.shelf_port.specs.Files.{NeverFalls};
 ghost use Rattle.shelf_port.specs.Ports.{shelf_state};
@@ -24,7 +24,7 @@ use certificate_check::{CertFault, MAX_CERTIFICATE_BYTES, Verdict, check};
 use certificate_text::{Certificate, read_cert};
 use instance_store::{CustId, Instance, NoMemory, SiteId};
 use location_terms::Claim;
-use plan_meaning::Plan;
+use plan_meaning::{Plan, judge};
 use range_scan::{Range, RangeRefusal, fixed_range, lane_range};
 use shelf_port::{MemShelf, ReadWhole, Shelf, read_whole};
 use std::alloc::Global;
@@ -66,8 +66,46 @@ fn keep(alloc: Global, name: &str, bytes: Vec<u8>) -> Result<MemShelf, NoMemory>
     Ok(MemShelf::new(alloc, files, Vec::new(alloc)))
 }
 
-// What is answered to the certificate in a file that is kept.
+// What is answered to the certificate in a file that is kept. Where it proves an optimum it is read once;
+// the checker, which reads it again, tells why another one doesn't.
 fn by_file(
+    alloc: Global,
+    inst: &Instance,
+    kept: MemShelf,
+    name: &str,
+    at: CostAt,
+) -> Result<Reply, NoMemory>
+    ensures { IfOk result (λ reply. (r : Run) (bytes : List ℕ) → get (files_of kept) name.now ≡ Some bytes → length bytes ≤ MAX_CERTIFICATE_BYTES →
+        AsksRange r inst.now at bytes → IsCause r reply) }
+{
+    let mut kept = kept;
+    if let Ok(cert) = read_cert(alloc, &mut kept, name, inst) {
+        if proves_optimum(inst, &cert)? {
+            return by_proof(alloc, inst, &cert, at);
+        }
+    }
+    by_check(alloc, inst, kept, name, at)
+}
+
+// Whether the certificate, which has a text, is accepted, and its claim is that of an optimum.
+fn proves_optimum(inst: &Instance, cert: &Certificate) -> Result<bool, NoMemory>
+    requires { HasText inst.now (certificate_of cert.now) }
+    ensures { IfOk result (λ yes. IsTrue yes → IsAccepted inst.now (certificate_of cert.now)) }
+{
+    let Claim::Optimal(cost) = cert.claim else {
+        return Ok(false);
+    };
+    let Some(plan) = &cert.plan else {
+        return Ok(false);
+    };
+    match judge(inst, plan) {
+        Ok(found) if found == cost => cert.tree.accepts(inst, Some(cost)),
+        _ => Ok(false),
+    }
+}
+
+// What is answered by the checker's word on the certificate in a file that is kept.
+fn by_check(
     alloc: Global,
     inst: &Instance,
     kept: MemShelf,

@@ -2,8 +2,7 @@
 ghost use Rattle.std.specs.Prelude.{◌≡◌, ◌++◌, IfOk, codes, decimal};
 ghost use Rattle.number_words.specs.Cost.{micro_text};
 ghost use Rattle.center_text.specs.CenterText.{radius_text};
-ghost use Rattle.dualoc_cli.specs.Reply.{failed_text, refused_text, outcome_text, text_of, result_line, center_line, no_text};
-ghost use Rattle.dualoc_cli.specs.Step.{CanBePrinted, IsPrintable};
+ghost use Rattle.dualoc_cli.specs.Reply.{failed_text, refused_text, outcome_text, text_of, result_line, center_line, no_text, CanBePrinted, IsPrintable};
 
 use crate::reply::{CenterEnd, Outcome, Port, Refusal, Reply};
 use center_text::{RadiusClaim, push_radius};
@@ -20,7 +19,7 @@ use std::alloc::Global;
 /// The text of a reply, as it is printed.
 ///
 /// Only want of memory fails.
-pub fn text(alloc: Global, reply: &Reply) -> Result<Vec<u8>, NoMemory>
+pub fn reply_text(alloc: Global, reply: &Reply) -> Result<Vec<u8>, NoMemory>
     requires { IsPrintable reply.now }
     ensures { IfOk result (λ text. text.items ≡ text_of reply.now) }
 {

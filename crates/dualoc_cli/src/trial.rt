@@ -16,7 +16,7 @@ use tree_search::budget_in;
 use trial_instance::trial;
 
 /// What is answered where the instance of these numbers is to be solved.
-pub fn solve_trial(alloc: Global, numbers: TrialNumbers) -> Result<Reply, NoMemory>
+pub(crate) fn solve_trial(alloc: Global, numbers: TrialNumbers) -> Result<Reply, NoMemory>
     requires { AreSizes numbers.sites numbers.custs }
     ensures cause { IfOk result (λ reply. (r : Run) → command_of r.words ≡ Some (asked_trial numbers) → IsCause r reply) }
     ensures once { IfOk result (λ reply. row_end reply ≡ None) }

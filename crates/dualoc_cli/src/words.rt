@@ -469,8 +469,8 @@ fn are_four_names(one: &str, other: &str, third: &str, fourth: &str) -> bool
         && are_apart(other, third, fourth)
 }
 
-// Whether the names of two files are not empty, and not the same.
-fn are_names(one: &str, other: &str) -> bool
+/// Whether the names of two files are not empty, and not the same.
+pub fn are_names(one: &str, other: &str) -> bool
     ensures { result ≡ are_names (one.now ∷ other.now ∷ []) }
 {
     !one.is_empty() && one != other && !other.is_empty()

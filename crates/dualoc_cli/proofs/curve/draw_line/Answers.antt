@@ -7,8 +7,14 @@ pub returns-clause-drawn : goal.returns-clause-drawn
 returns-clause-drawn g c =
     line_drawn c.args.inst.now c.args.budget c.args.count c.in_ok-line.line.items c.deref.result.now _ _ c.in_ok-line.ensures c.deref.ensures.value c.in_ok-write_whole.ensures.ok c.in_ok-write_whole.ensures.taken c.write_whole.ensures.counts
 
+pub returns-in_err-answer-clause-undrawn : goal.returns-in_err-answer-clause-undrawn
+returns-in_err-answer-clause-undrawn g c = let p = err_from_is_err_and c.from_residual.result c.from_residual.ensures.1 in rw (p.1, p.2) refl
+
 pub returns-in_err-line-clause-undrawn : goal.returns-in_err-line-clause-undrawn
-returns-in_err-line-clause-undrawn g c = let p = err_from_is_err_and c.from_residual.result c.from_residual.ensures.1 in rw (p.1, p.2) refl
+returns-in_err-line-clause-undrawn g c = let p = err_from_is_err_and c.from_residual-in_err-line.result c.from_residual-in_err-line.ensures.1 in rw (p.1, p.2) refl
+
+pub returns-in_err-next-clause-undrawn : goal.returns-in_err-next-clause-undrawn
+returns-in_err-next-clause-undrawn g c = let p = err_from_is_err_and c.from_residual-in_err-next.result c.from_residual-in_err-next.ensures.1 in rw (p.1, p.2) refl
 
 pub returns-in_err-write_whole-clause-undrawn : goal.returns-in_err-write_whole-clause-undrawn
 returns-in_err-write_whole-clause-undrawn g c =
