@@ -1,0 +1,25 @@
+//! A desk: a what-if session together with a keeper of named scenarios, one line at a time. The lines are
+//! those of a session and four more, which keep the edits in force under a name, begin anew with what is
+//! kept there, forget it, and list what is kept. The definitions are in `specs/`.
+#![tactic(auto)]
+
+mod asking;
+mod desk;
+mod fault;
+mod laws;
+mod limits;
+mod loading;
+mod names;
+mod replies;
+mod request;
+
+pub use desk::Desk;
+pub use fault::DeskFault;
+pub use instance_store::{Instance, NoMemory};
+pub use laws::loaded_scenarios;
+pub use limits::MAX_NAME_BYTES;
+pub use scenario_keeper::Keeper;
+pub use whatif_session::Reply;
+
+#[cfg(test)]
+mod tests;

@@ -1,0 +1,42 @@
+//! The names of scenarios.
+ghost use Rattle.std.specs.Prelude.{◌≡◌, option_map, if◌then◌else◌, Some, None};
+ghost use Rattle.std.specs.List.{list_all};
+ghost use Rattle.desk_session.specs.Lines.{is_name, is_name_byte};
+
+use crate::limits::MAX_NAME_BYTES;
+
+/// The name that a word is: 1 to `MAX_NAME_BYTES` ASCII letters, digits, `-` and `_`.
+pub(crate) fn name(word: &[u8]) -> Option<&str>
+    ensures { option_map (λ s. s.now) result ≡ (if is_name word.now then Some word.now else None) }
+{
+    if !is_name(word) {
+        return None;
+    }
+    match std::str::from_utf8(word) {
+        Ok(name) => Some(name),
+        Err(_) => None,
+    }
+}
+
+fn is_name(word: &[u8]) -> bool
+    ensures { result ≡ is_name word.now }
+{
+    !word.is_empty() && word.len() <= MAX_NAME_BYTES && are_name_bytes(word)
+}
+
+fn are_name_bytes(word: &[u8]) -> bool
+    ensures { result ≡ list_all is_name_byte word.now }
+{
+    for byte in word {
+        if !is_name_byte(*byte) {
+            return false;
+        }
+    }
+    true
+}
+
+fn is_name_byte(byte: u8) -> bool
+    ensures { result ≡ is_name_byte byte }
+{
+    byte.is_ascii_alphanumeric() || byte == b'-' || byte == b'_'
+}
