@@ -1,0 +1,7 @@
+-- What a keeper in a file counts.
+use Rattle.std.specs.Prelude.{ℕ}
+use Rattle.sqlite_keeper.specs.declared.keeper.SqliteKeeper.{SqliteKeeper}
+
+-- how many of its calls failed
+abbrev pub counted_faults : SqliteKeeper → ℕ
+counted_faults keeper = keeper.faults
