@@ -18,16 +18,16 @@ pub fn ran(
 ) -> Result<Outcome, AllocError>
     requires { 0 < calls.width }
 {
-    let names = owned(alloc, words)?;
+    let names = words_of(alloc, words)?;
     let mut shelf = shelf_of(alloc, files, calls)?;
     let mut source = source_of(alloc, input, calls)?;
-    let mut out = MemSink::new(alloc, vec![in alloc; calls.out_fails]?).in_pieces(calls.width);
+    let mut out = sink_of(alloc, calls)?;
     let status = run(alloc, &names, &mut shelf, &mut source, &mut out);
     Ok(Outcome { status, shelf, out })
 }
 
-// The words of a text: none where it is empty, else those that its spaces part.
-fn owned(alloc: Global, words: &str) -> Result<Vec<String>, AllocError> {
+/// The words of a text: none where it is empty, else those that its spaces part.
+pub fn words_of(alloc: Global, words: &str) -> Result<Vec<String>, AllocError> {
     let mut names = Vec::new(alloc);
     if !words.is_empty() {
         for word in words.split(' ') {
@@ -37,7 +37,8 @@ fn owned(alloc: Global, words: &str) -> Result<Vec<String>, AllocError> {
     Ok(names)
 }
 
-fn shelf_of(alloc: Global, files: &[(&str, &str)], calls: Calls) -> Result<MemShelf, AllocError>
+/// A shelf with these files, by name and text, and these calls.
+pub fn shelf_of(alloc: Global, files: &[(&str, &str)], calls: Calls) -> Result<MemShelf, AllocError>
     requires { 0 < calls.width }
 {
     let mut held = Vec::new(alloc);
@@ -51,9 +52,18 @@ fn shelf_of(alloc: Global, files: &[(&str, &str)], calls: Calls) -> Result<MemSh
     Ok(MemShelf::new(alloc, held, fails).in_pieces(calls.width))
 }
 
-fn source_of(alloc: Global, input: &[u8], calls: Calls) -> Result<MemSource, AllocError>
+/// An input with these bytes and these calls.
+pub fn source_of(alloc: Global, input: &[u8], calls: Calls) -> Result<MemSource, AllocError>
     requires { 0 < calls.width }
 {
     let fails = vec![in alloc; calls.input_fails]?;
     Ok(MemSource::new(input.to_vec(alloc)?, fails).in_pieces(calls.width))
+}
+
+/// An output with these calls.
+pub fn sink_of(alloc: Global, calls: Calls) -> Result<MemSink, AllocError>
+    requires { 0 < calls.width }
+{
+    let fails = vec![in alloc; calls.out_fails]?;
+    Ok(MemSink::new(alloc, fails).in_pieces(calls.width))
 }

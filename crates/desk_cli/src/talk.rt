@@ -1,0 +1,188 @@
+//! A desk while it is held: the lines of the input are stepped one after another, and each is answered
+//! before the next one is read.
+ghost use Rattle.std.specs.Prelude.{◌≡◌, ◌+◌, ◌-◌, ◌^◌, ◌<◌, ◌≤◌, [], IfOk, IfErr};
+ghost use Rattle.shelf_port.specs.Files.{NeverFalls};
+ghost use Rattle.shelf_port.specs.Ports.{shelf_state, source_state, sink_state, ports_of};
+ghost use Rattle.shelf_lines.specs.Rest.{unread};
+ghost use Rattle.whatif_session.specs.Input.{session_limits};
+ghost use Rattle.whatif_session.specs.State.{last_serial};
+ghost use Rattle.dualoc_cli.specs.Talk.{limits_at, limits_of};
+ghost use Rattle.desk_session.specs.State.{desk_on, desk_at, keeper_state};
+ghost use Rattle.desk_cli.specs.Talk.{IsDeskAnswered, IsDeskUnanswered, IsEndedDesk, IsHaltedDesk};
+
+use crate::reply::DeskReply;
+use desk_session::Desk;
+use dualoc_cli::Halt;
+use instance_store::Instance;
+use scenario_keeper::Keeper;
+use shelf_lines::{InputLines, LineFault, NextInput};
+use shelf_port::{Shelf, Sink, Source, write_whole};
+use std::alloc::Global;
+use whatif_session::{MAX_INPUT_BYTES, MAX_LINE_BYTES};
+
+/// What a run ends with whose words name this instance: how the desk ended, behind the replies to its
+/// lines, which are printed.
+pub fn held<H: Shelf, K: Keeper, I: Source, O: Sink>(
+    alloc: Global,
+    inst: Instance,
+    shelf: &mut H,
+    keeper: &mut K,
+    input: &mut I,
+    out: &mut O,
+) -> Result<DeskReply, Halt>
+    ensures ended { IfOk result (IsEndedDesk session_limits inst
+        (ports_of (shelf_state (H.files shelf.old) (H.read_faults shelf.old) (H.write_faults shelf.old))
+        (source_state (I.left input.old) (I.faults input.old))
+        (sink_state (O.written out.old) (O.faults out.old) (O.refusals out.old)))
+        (ports_of (shelf_state (H.files shelf.new) (H.read_faults shelf.new) (H.write_faults shelf.new))
+        (source_state (I.left input.new) (I.faults input.new))
+        (sink_state (O.written out.new) (O.faults out.new) (O.refusals out.new)))
+        (keeper_state (K.table keeper.old) (K.faults keeper.old))
+        (keeper_state (K.table keeper.new) (K.faults keeper.new))) }
+    ensures halted { IfErr result (IsHaltedDesk session_limits inst
+        (ports_of (shelf_state (H.files shelf.old) (H.read_faults shelf.old) (H.write_faults shelf.old))
+        (source_state (I.left input.old) (I.faults input.old))
+        (sink_state (O.written out.old) (O.faults out.old) (O.refusals out.old)))
+        (ports_of (shelf_state (H.files shelf.new) (H.read_faults shelf.new) (H.write_faults shelf.new))
+        (source_state (I.left input.new) (I.faults input.new))
+        (sink_state (O.written out.new) (O.faults out.new) (O.refusals out.new)))
+        (keeper_state (K.table keeper.old) (K.faults keeper.old))
+        (keeper_state (K.table keeper.new) (K.faults keeper.new))) }
+    ensures reads { NeverFalls (H.read_faults shelf.old) (H.read_faults shelf.new) }
+    ensures writes { NeverFalls (H.write_faults shelf.old) (H.write_faults shelf.new) }
+{
+    let most = MAX_LINE_BYTES as usize;
+    hold(
+        alloc,
+        inst,
+        most,
+        MAX_INPUT_BYTES,
+        shelf,
+        keeper,
+        input,
+        out,
+    )
+}
+
+// A desk whose lines may have so many bytes, their line feeds not counted, and its input so many in all.
+fn hold<H: Shelf, K: Keeper, I: Source, O: Sink>(
+    alloc: Global,
+    inst: Instance,
+    most: usize,
+    limit: u64,
+    shelf: &mut H,
+    keeper: &mut K,
+    input: &mut I,
+    out: &mut O,
+) -> Result<DeskReply, Halt>
+    requires small { limit + 1 < 2 ^ 64 - 1 }
+    ensures ended { IfOk result (IsEndedDesk (limits_at most limit) inst
+        (ports_of (shelf_state (H.files shelf.old) (H.read_faults shelf.old) (H.write_faults shelf.old))
+        (source_state (I.left input.old) (I.faults input.old))
+        (sink_state (O.written out.old) (O.faults out.old) (O.refusals out.old)))
+        (ports_of (shelf_state (H.files shelf.new) (H.read_faults shelf.new) (H.write_faults shelf.new))
+        (source_state (I.left input.new) (I.faults input.new))
+        (sink_state (O.written out.new) (O.faults out.new) (O.refusals out.new)))
+        (keeper_state (K.table keeper.old) (K.faults keeper.old))
+        (keeper_state (K.table keeper.new) (K.faults keeper.new))) }
+    ensures halted { IfErr result (IsHaltedDesk (limits_at most limit) inst
+        (ports_of (shelf_state (H.files shelf.old) (H.read_faults shelf.old) (H.write_faults shelf.old))
+        (source_state (I.left input.old) (I.faults input.old))
+        (sink_state (O.written out.old) (O.faults out.old) (O.refusals out.old)))
+        (ports_of (shelf_state (H.files shelf.new) (H.read_faults shelf.new) (H.write_faults shelf.new))
+        (source_state (I.left input.new) (I.faults input.new))
+        (sink_state (O.written out.new) (O.faults out.new) (O.refusals out.new)))
+        (keeper_state (K.table keeper.old) (K.faults keeper.old))
+        (keeper_state (K.table keeper.new) (K.faults keeper.new))) }
+    ensures reads { NeverFalls (H.read_faults shelf.old) (H.read_faults shelf.new) }
+    ensures writes { NeverFalls (H.write_faults shelf.old) (H.write_faults shelf.new) }
+{
+    let mut lines = InputLines::new(alloc, most, limit);
+    let mut desk = Desk::start(alloc, inst)?;
+    talk(&mut desk, &mut lines, shelf, keeper, input, out)
+}
+
+// Answers line after line, up to the end of the desk.
+fn talk<H: Shelf, K: Keeper, I: Source, O: Sink>(
+    desk: &mut Desk,
+    lines: &mut InputLines,
+    shelf: &mut H,
+    keeper: &mut K,
+    input: &mut I,
+    out: &mut O,
+) -> Result<DeskReply, Halt>
+    requires begun { desk.old ≡ desk_on desk.old.session.instance }
+    requires ahead { lines.old.lines.ahead ≡ [] }
+    requires room { 0 < unread lines.old.lines }
+    requires small { unread lines.old.lines < 2 ^ 64 - 1 }
+    ensures ended { IfOk result (IsEndedDesk (limits_of lines.old) desk.old.session.instance
+        (ports_of (shelf_state (H.files shelf.old) (H.read_faults shelf.old) (H.write_faults shelf.old))
+        (source_state (I.left input.old) (I.faults input.old))
+        (sink_state (O.written out.old) (O.faults out.old) (O.refusals out.old)))
+        (ports_of (shelf_state (H.files shelf.new) (H.read_faults shelf.new) (H.write_faults shelf.new))
+        (source_state (I.left input.new) (I.faults input.new))
+        (sink_state (O.written out.new) (O.faults out.new) (O.refusals out.new)))
+        (keeper_state (K.table keeper.old) (K.faults keeper.old))
+        (keeper_state (K.table keeper.new) (K.faults keeper.new))) }
+    ensures halted { IfErr result (IsHaltedDesk (limits_of lines.old) desk.old.session.instance
+        (ports_of (shelf_state (H.files shelf.old) (H.read_faults shelf.old) (H.write_faults shelf.old))
+        (source_state (I.left input.old) (I.faults input.old))
+        (sink_state (O.written out.old) (O.faults out.old) (O.refusals out.old)))
+        (ports_of (shelf_state (H.files shelf.new) (H.read_faults shelf.new) (H.write_faults shelf.new))
+        (source_state (I.left input.new) (I.faults input.new))
+        (sink_state (O.written out.new) (O.faults out.new) (O.refusals out.new)))
+        (keeper_state (K.table keeper.old) (K.faults keeper.old))
+        (keeper_state (K.table keeper.new) (K.faults keeper.new))) }
+    ensures reads { NeverFalls (H.read_faults shelf.old) (H.read_faults shelf.new) }
+    ensures writes { NeverFalls (H.write_faults shelf.old) (H.write_faults shelf.new) }
+{
+    loop {
+        match lines.next(input) {
+            Ok(NextInput::Line) => {
+                if answer(desk, lines.line(), shelf, keeper, out)? {
+                    return Ok(DeskReply::Ended);
+                }
+            }
+            Ok(NextInput::End) => {
+                if !lines.line().is_empty() {
+                    answer(desk, lines.line(), shelf, keeper, out)?;
+                    return Ok(DeskReply::Ended);
+                }
+                return Ok(DeskReply::Ended);
+            }
+            Ok(NextInput::LineTooLong) => return Ok(DeskReply::LongLine),
+            Ok(NextInput::InputTooLong) => return Ok(DeskReply::LongInput),
+            Err(LineFault::Failed) => return Ok(DeskReply::InputFailed),
+            Err(LineFault::NoMemory) => return Err(Halt::NoMemory),
+        }
+    }
+}
+
+// Answers a line. Says whether the desk ends with it.
+fn answer<H: Shelf, K: Keeper, O: Sink>(
+    desk: &mut Desk,
+    line: &[u8],
+    shelf: &mut H,
+    keeper: &mut K,
+    out: &mut O,
+) -> Result<bool, Halt>
+    requires { last_serial desk.old.session.state < 2 ^ 64 - 1 }
+    ensures answered { IfOk result (IsDeskAnswered (desk_at desk.old
+        (shelf_state (H.files shelf.old) (H.read_faults shelf.old) (H.write_faults shelf.old)) (keeper_state (K.table keeper.old) (K.faults keeper.old))) line.now
+        (sink_state (O.written out.old) (O.faults out.old) (O.refusals out.old))
+        (desk_at desk.new
+        (shelf_state (H.files shelf.new) (H.read_faults shelf.new) (H.write_faults shelf.new)) (keeper_state (K.table keeper.new) (K.faults keeper.new)))
+        (sink_state (O.written out.new) (O.faults out.new) (O.refusals out.new))) }
+    ensures unanswered { IfErr result (IsDeskUnanswered (desk_at desk.old
+        (shelf_state (H.files shelf.old) (H.read_faults shelf.old) (H.write_faults shelf.old)) (keeper_state (K.table keeper.old) (K.faults keeper.old))) line.now
+        (sink_state (O.written out.old) (O.faults out.old) (O.refusals out.old))
+        (shelf_state (H.files shelf.new) (H.read_faults shelf.new) (H.write_faults shelf.new))
+        (keeper_state (K.table keeper.new) (K.faults keeper.new))
+        (sink_state (O.written out.new) (O.faults out.new) (O.refusals out.new))) }
+    ensures reads { NeverFalls (H.read_faults shelf.old) (H.read_faults shelf.new) }
+    ensures writes { NeverFalls (H.write_faults shelf.old) (H.write_faults shelf.new) }
+{
+    let reply = desk.step(line, shelf, keeper)?;
+    write_whole(out, reply.text())?;
+    Ok(reply.ended())
+}
