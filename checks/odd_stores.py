@@ -110,16 +110,16 @@ def unwritable(scene):
 
 
 def full(scene):
-    """A disk of a few blocks takes no long scenario, and the session goes on. Whether there was one."""
+    """A disk on which one block of a log has room takes no long scenario, and the session goes on. Whether there was one."""
     disk = scene.program.at("disk")
     os.mkdir(disk)
-    if subprocess.run(["mount", "-t", "tmpfs", "-o", "size=65536", "none", disk], stderr=subprocess.DEVNULL).returncode:
+    if subprocess.run(["mount", "-t", "tmpfs", "-o", "size=409600", "none", disk], stderr=subprocess.DEVNULL).returncode:
         return False
     try:
         desk = scene.desk("disk/s.db")
         scene.say(desk, b"keep a", "ok\n", "a small disk")
         for k in range(3000):
-            desk.ask(b"fixed 1 %d" % k)
+            desk.ask(b"fixed 1" + b" " * 200 + b"%d" % k)
         scene.say(desk, b"keep b", FAILED, "a full disk")
         scene.say(desk, b"load a", "ok edits 0\n", "a full disk")
         due("a full disk", desk.end(), ("", DONE))

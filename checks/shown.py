@@ -1,9 +1,9 @@
-"""Follows the pages: what README.md and docs/ show of commands and sessions is what comes of them: `shown.py PROGRAM`.
+"""Follows the pages: what README.md and docs/ show of commands and sessions is what comes of them: `shown.py PROGRAM [DESK]`.
 
 A page is gone through from its top, in a folder of its own. Each command in a block, or in a line of text, has to end well, and
 where the page says behind it what it `prints` or `says`, that has to be its output, or the first words of it. Blocks of Python
-are run. A table of lines and replies is a session on the instance that is named last above it, and each line has to have just
-the reply that stands beside it; behind it the lines of sessions that the text names are told as well.
+are run. A table of lines and replies is a session, or a desk, on the instance that is named last above it, and each line has to have
+just the reply that stands beside it; behind it the lines of sessions that the text names are told as well.
 """
 import os
 import re
@@ -21,18 +21,19 @@ SHOWN = re.compile(r"```(?P<kind>\w*)\n(?P<block>.*?)```|\| Line \| Reply \| \|\
 ROW = re.compile(r"\| `(?P<line>[^`]*)` \| (?P<replies>`.*`) \|[^|]*\|")
 SAYS = re.compile(r",? ?(?:then )?(?:prints|says)[ \n]+(?:```\n(?P<block>.*?)```|`(?P<words>[^`\n]+)`)", re.S)
 LATER = re.compile(r"(?:cert|save) [\w.]+\Z")
+DESK = ROOT / "crates/dualoc_desk/out/dualoc_desk"
 
 
 class Reader:
     """One who follows a page, and counts what was done."""
 
-    def __init__(self, program, page):
+    def __init__(self, program, desk, page):
         self.page, self.folder, self.done, self.session = page, program.at(page.replace("/", " ")), 0, None
         os.mkdir(self.folder)
         for name in "examples", "tools":
             os.symlink(ROOT / name, f"{self.folder}/{name}")
         with open(f"{self.folder}/dualoc", "w") as file:
-            file.write(f'#!/bin/sh\nexec {shlex.quote(program.path)} "$@"\n')
+            file.write(f'#!/bin/sh\n[ "$1" = desk ] && shift && exec {shlex.quote(os.path.abspath(desk))} "$@"\nexec {shlex.quote(program.path)} "$@"\n')
         os.chmod(f"{self.folder}/dualoc", 0o755)
 
     def fail(self, words, why):
@@ -49,7 +50,7 @@ class Reader:
 
     def follow(self, command, rest):
         """Runs a command, and compares its output with what the text behind it says of that."""
-        if "./dualoc session" in command and not command.startswith("printf"):
+        if re.search(r"\./dualoc (session|desk)", command) and not command.startswith("printf"):
             self.session = command
         said, due = self.run(["sh", "-c", command]), SAYS.match(rest)
         if due and not said.startswith((due["block"] or due["words"])):
@@ -82,8 +83,8 @@ class Reader:
         return self.done
 
 
-def check(program):
-    counts = {page: Reader(program, page).read() for page in PAGES}
+def check(program, desk=str(DESK)):
+    counts = {page: Reader(program, desk, page).read() for page in PAGES}
     if not all(counts.values()):
         sys.exit(f"check: a page shows no command: {counts}")
     return "shown: " + ", ".join(f"{many} commands and sessions of {page}" for page, many in counts.items()) + " come to what they show"
