@@ -36,6 +36,6 @@ def built(top):
     loader = importlib.machinery.SourceFileLoader("script", f"{top}/dualoc")
     script = importlib.util.module_from_spec(importlib.util.spec_from_loader("script", loader))
     loader.exec_module(script)
-    if not script.build(script.crates_below(script.MAIN)):
+    if not script.build(script.MAIN, script.crates_below(script.MAIN)):
         sys.exit("check: the program of a check can't be built")
-    return script.UNPROVED
+    return script.unproved(script.MAIN)
