@@ -12,11 +12,11 @@ from own import Instance, file_at
 PAIR = b"2 3 0\n1 10 1 2 9\n2 12 8 7 1\n"
 BASE = Instance.numbered([10 * MICRO, 12 * MICRO], [[MICRO, 2 * MICRO, 9 * MICRO], [8 * MICRO, 7 * MICRO, MICRO]]).text()
 BEST, FAILED = "optimal 22.000000 made 0 nodes 1\n", "refused KeeperFailed\n"
-TABLES = ("CREATE TABLE scenario (name TEXT NOT NULL PRIMARY KEY, base BLOB NOT NULL, edits INTEGER NOT NULL)",
-          "CREATE TABLE line (name TEXT NOT NULL, place INTEGER NOT NULL, body BLOB NOT NULL, PRIMARY KEY (name, place))")
+TABLES = ("CREATE TABLE scenario (name TEXT PRIMARY KEY, base BLOB, edits INTEGER)",
+          "CREATE TABLE line (name TEXT, place INTEGER, body BLOB, PRIMARY KEY (name, place))")
 # Stores of another make, and what they are asked.
 STRANGE = [("CREATE TABLE scenario (x)",), ("CREATE TABLE line (name TEXT, x INTEGER)",), ("CREATE VIEW scenario AS SELECT 1 AS x",),
-           (TABLES[0].replace("base BLOB NOT NULL, ", ""), TABLES[1])]
+           (TABLES[0].replace("base BLOB, ", ""), TABLES[1])]
 ASKED = [b"keep a", b"load a", b"forget a", b"names"]
 # A scenario's base, how many edits it says it has, its lines with their places, and the reply to `load c`.
 WRITTEN = [(BASE, 0, [], "ok edits 0\n"), (BASE, 2, [(1, b"fixed 1 30"), (2, b" lane 1 3 none\r")], "ok edits 2\n"),
@@ -25,7 +25,8 @@ WRITTEN = [(BASE, 0, [], "ok edits 0\n"), (BASE, 2, [(1, b"fixed 1 30"), (2, b" 
            (BASE, 2, [(1, b"fixed 1 30"), (2, b"fixed 9 5")], "refused BadScenario line 2\n"), (BASE, 1, [(1, b"")], "refused BadScenario line 1\n"),
            (BASE, 1, [(1, b"undo")], "refused BadScenario line 1\n"), (BASE, 2, [(1, b"fixed 1 1"), (3, b"fixed 1 2")], FAILED),
            (BASE, 1, [(2, b"fixed 1 1")], FAILED), (BASE, 2, [(1, b"fixed 1 1")], FAILED), (BASE, 0, [(1, b"fixed 1 1")], FAILED),
-           (BASE.decode(), 0, [], FAILED), (BASE, 1, [(1, "fixed 1 1")], FAILED), (BASE, "one", [(1, b"fixed 1 1")], FAILED)]
+           (BASE.decode(), 0, [], FAILED), (BASE, 1, [(1, "fixed 1 1")], FAILED), (BASE, "one", [(1, b"fixed 1 1")], FAILED),
+           (None, 0, [], FAILED), (BASE, None, [], FAILED), (BASE, 1, [(1, None)], FAILED), (BASE, 1, [(None, b"fixed 1 1")], FAILED)]
 
 
 def due(shown, found, wanted):
@@ -140,7 +141,7 @@ def written(scene):
             scene.say(desk, b"solve", BEST, (base, many, lines))
         due((base, lines), desk.end(), ("", DONE))
         due("a line that saves", os.path.exists(scene.program.at("x")), False)
-    for name in "a b", "", "x" * 65, "\u00e9", b"c":
+    for name in "a b", "", "x" * 65, "\u00e9", b"c", None:
         scene.sql(*TABLES, ("INSERT INTO scenario VALUES (?, ?, 0)", (name, BASE)))
         scene.refuse(f"the name {name!r}", asked=[b"names"])
-    return len(WRITTEN) + 5
+    return len(WRITTEN) + 6

@@ -2,10 +2,10 @@
 
 // The two tables. A store whose tables were made by other texts isn't one of this crate.
 pub(crate) const SCENARIO_TABLE: &str =
-    "CREATE TABLE scenario (name TEXT NOT NULL PRIMARY KEY, base BLOB NOT NULL, edits INTEGER NOT NULL)";
+    "CREATE TABLE scenario (name TEXT PRIMARY KEY, base BLOB, edits INTEGER)";
 
 pub(crate) const LINE_TABLE: &str =
-    "CREATE TABLE line (name TEXT NOT NULL, place INTEGER NOT NULL, body BLOB NOT NULL, PRIMARY KEY (name, place))";
+    "CREATE TABLE line (name TEXT, place INTEGER, body BLOB, PRIMARY KEY (name, place))";
 
 // The texts by which the two names were made.
 pub(crate) const TABLES: &str =
