@@ -10,12 +10,14 @@ mod calls;
 mod fault;
 mod keeper;
 mod map_keeper;
+mod name;
 mod name_list;
 mod scenario;
 
 pub use fault::{KeeperFault, NoMemory};
 pub use keeper::Keeper;
 pub use map_keeper::MapKeeper;
+pub use name::{MAX_NAME_BYTES, as_name, is_name};
 pub use name_list::NameList;
 pub use scenario::Scenario;
 

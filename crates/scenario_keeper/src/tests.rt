@@ -100,3 +100,18 @@ fn fails_where_it_is_told_to(rt: HostRuntime) -> Result<(), Fail> {
     assert!(rt; fails_in_turn(alloc, &mut keeper));
     Ok(())
 }
+
+fn takes_names_alone() -> bool {
+    let long = [b'x'; 65];
+    as_name(b"B_-9") == Some("B_-9")
+        && is_name(&long[..64])
+        && !is_name(&long)
+        && as_name(b"").is_none()
+        && as_name(b"a.b").is_none()
+}
+
+#[test]
+fn takes_what_is_a_name(rt: HostRuntime) -> Result<(), Fail> {
+    assert!(rt; takes_names_alone());
+    Ok(())
+}

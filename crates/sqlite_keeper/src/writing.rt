@@ -1,9 +1,8 @@
 // What changes a store: each in one transaction, which is rolled back where a part of it is refused.
 use crate::refusal::Refusal;
 use crate::texts::{DELETE_LINES, DELETE_SCENARIO, INSERT_LINE, INSERT_SCENARIO};
-use scenario_keeper::Scenario;
+use scenario_keeper::{Scenario, is_name};
 use sqlite::{Alter, Connection, Transaction, params};
-use sqlite_rows::is_name;
 
 /// Puts a scenario under a name, in the place of what stood there. A name that no list of names may hold is
 /// refused.

@@ -1,11 +1,12 @@
 -- Rows of names, read one after another.
-use Rattle.std.proofs.Common.{◌≡◌, ◌≢◌, ◌<◌, ◌≤◌, ◌+◌, ℕ, List, [], ◌∷◌, ◌++◌, map, length, drop, get_or, All, refl, sym, ap, subst, ◌∙◌, arith}
+use Rattle.std.proofs.Common.{◌≡◌, ◌≢◌, ◌<◌, ◌≤◌, ◌+◌, ℕ, List, [], ◌∷◌, ◌++◌, map, length, drop, get_or, All, refl, sym, ap, subst, ◌∙◌}
 use Rattle.std.proofs.lemmas.List.{append-nil, append_assoc, map-append, get_or_default, drop_more, drop_all}
 use Rattle.std.proofs.lemmas.List.Elements.{All-nil, All-push, All-head, All-tail}
 use Rattle.sqlite_value.specs.Order.{Row}
 use Rattle.scenario_keeper.specs.Names.{NamesRise, IsAbove}
 use Rattle.scenario_keeper.proofs.Names.{no_names-rise, rise-push, above-front}
-use Rattle.sqlite_rows.specs.Named.{name_row, IsName, AreOfNames}
+use Rattle.scenario_keeper.specs.Spelling.{IsName}
+use Rattle.sqlite_rows.specs.Named.{name_row, AreOfNames}
 
 abbrev pub Entry : Type 0
 Entry = List ℕ × ℕ

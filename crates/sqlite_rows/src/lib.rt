@@ -10,5 +10,5 @@ mod names;
 mod scenario;
 
 pub use fault::RowsFault;
-pub use names::{is_name, names_of};
+pub use names::names_of;
 pub use scenario::scenario_of;
