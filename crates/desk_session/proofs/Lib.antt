@@ -1,7 +1,9 @@
 mod Answered
+mod Keeping
 mod Lines
+mod Loadable
 mod Loads
-mod NameTexts
+mod Reloads
 mod Settled
 mod Steps
 mod Stepping

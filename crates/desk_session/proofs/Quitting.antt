@@ -4,7 +4,8 @@ use Rattle.std.specs.Prelude.{bytes_eq, if◌then◌else◌}
 use Rattle.std.proofs.lemmas.Slice.Eq.{bytes_eq-Decides}
 use Rattle.number_words.specs.Line.{words_of_line}
 use Rattle.session_lines.specs.Lines.{line_of_words, asks_to_quit, quits}
-use Rattle.desk_session.specs.Lines.{KeeperLine, Keep, Load, Forget, Names, is_name, named_line, keeper_words, keeper_line}
+use Rattle.scenario_keeper.specs.Spelling.{is_name}
+use Rattle.desk_session.specs.Lines.{KeeperLine, Keep, Load, Forget, Names, named_line, keeper_words, keeper_line}
 
 -- the words are those of no line of a session
 abbrev IsOther : List (List ℕ) → Type 0

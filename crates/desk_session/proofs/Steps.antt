@@ -2,6 +2,7 @@
 use Rattle.std.proofs.Common.{◌≡◌, ◌⊎◌, inl, inr, ℕ, ◌+◌, ◌-◌, ◌<◌, Bool, true, false, List, [], ◌∷◌, ◌++◌, length, take, Option, None, Some, refl, sym, ap, subst, ◌∙◌, arith}
 use Rattle.std.specs.Prelude.{nat_lt, nat_le, Result, Ok, Err, MatchBool, if◌then◌else◌, option_and_then}
 use Rattle.std.specs.List.{last_or}
+use Rattle.std.proofs.lemmas.Bool.{leb-false}
 use Rattle.std.proofs.lemmas.List.{map-append, length-append, length-map, length-take, take-map}
 use Rattle.location_terms.specs.Instance.{Instance}
 use Rattle.instance_edits.specs.declared.edit.Edit.{Edit}
@@ -17,8 +18,9 @@ use Rattle.whatif_session.specs.Step.{Moment, Does, IsReplied, ShowsAnswer, Solv
 use Rattle.desk_session.specs.State.{AreLinesOf, lines_after}
 use Rattle.desk_session.proofs.Lines.{lines_more, lines_fewer, lines_same}
 
--- one edit more, which is that of the line
+-- one edit more, which is that of the line, where fewer are held than a session does
 pub record IsOneMore (asked : Option Edit) (old new : List HeldEdit) : Type 0 where
+  pub room : length old < MAX_EDITS
   pub held : HeldEdit
   pub is_asked : asked ≡ Some held.edit
   pub edits : new ≡ old ++ held ∷ []
@@ -40,13 +42,18 @@ module _ (old : Moment) (reply : List ℕ) (new : Moment) where
   abbrev LeadsOn : Option Edit → Type 0
   LeadsOn asked = Leads asked old.session new.session
 
-  changed : (e : Edit) (full : Bool) (I : Instance) (r : Result Instance EditFault)
+  changed : (e : Edit) (full : Bool) (I : Instance) (r : Result Instance EditFault) → nat_le MAX_EDITS (length old.session.edits) ≡ full
       → IsReplied (if full then Err fault.SessionFull else told_edit old.session I e r) old reply new → LeadsOn (Some e)
-  changed e true I r done = same (Some e) old.session new.session done.left
-  changed e false I (Err refusal) done = same (Some e) old.session new.session done.left
-  changed e false I (Ok J) done = record {
+  changed e true I r is done = same (Some e) old.session new.session done.left
+  changed e false I (Err refusal) is done = same (Some e) old.session new.session done.left
+  changed e false I (Ok J) is done = record {
     base = λ i. (done.left i).base;
-    edits = inr (inl (record { held = record { edit = e; serial = old.session.present }; is_asked = refl; edits = λ i. (done.left i).edits }));
+    edits = inr (inl (record {
+      room = leb-false MAX_EDITS (length old.session.edits) is;
+      held = record { edit = e; serial = old.session.present };
+      is_asked = refl;
+      edits = λ i. (done.left i).edits;
+    }));
   }
 
   undone : (edits : List HeldEdit) → old.session.edits ≡ edits → IsReplied (told_undo old.session (last_or None edits)) old reply new → LeadsOn None
@@ -69,7 +76,7 @@ module _ (old : Moment) (reply : List ℕ) (new : Moment) where
   leads I None done = same None old.session new.session done.left
   leads I (Some Blank) done = same None old.session new.session done.left
   leads I (Some Quit) done = same None old.session new.session done.left
-  leads I (Some (Change e)) done = changed e (nat_le MAX_EDITS (length old.session.edits)) I (edited I e) done
+  leads I (Some (Change e)) done = changed e (nat_le MAX_EDITS (length old.session.edits)) I (edited I e) refl done
   leads I (Some TakeBack) done = undone old.session.edits refl done
   leads I (Some (Solve given)) done = solved I (budget_in I given) (nat_lt (max_budget I) (budget_in I given)) done
   leads I (Some (Show form)) done = shown (standing_answer old.session) done

@@ -5,6 +5,7 @@ pub mod State
 pub mod Loaded
 pub mod Leads
 pub mod Step
+pub mod Reloaded
 pub mod Codes
 pub mod Kept
 pub mod Asked

@@ -1,21 +1,12 @@
 -- The lines that ask something of a keeper of scenarios. All others are those of a session.
-use Rattle.std.specs.Prelude.{◌==◌, ℕ, Bool, ◌&&◌, ◌||◌, List, [], ◌∷◌, length, Option, None, Some, nat_lt, nat_le, bytes_eq, codes, if◌then◌else◌}
-use Rattle.std.specs.List.{list_all}
+use Rattle.std.specs.Prelude.{ℕ, List, [], ◌∷◌, Option, None, Some, bytes_eq, codes, if◌then◌else◌}
 use Rattle.number_words.specs.Line.{words_of_line}
-use Rattle.desk_session.specs.declared.limits.TheConstants.{MAX_NAME_BYTES}
+use Rattle.scenario_keeper.specs.Spelling.{is_name}
 
 -- to keep the session under a name, to begin anew with what is kept there, to forget that, or to list what is kept
 pub data KeeperLine : Type 0 where
   Keep Load Forget : (name : List ℕ) → KeeperLine
   Names : KeeperLine
-
--- an ASCII letter or digit, `-` or `_`
-abbrev pub is_name_byte : ℕ → Bool
-is_name_byte b = (nat_le 48 b && nat_le b 57) || (nat_le 65 b && nat_le b 90) || (nat_le 97 b && nat_le b 122) || (b == 45 || b == 95)
-
--- a name of a scenario: not empty, not too long, and of such bytes alone
-abbrev pub is_name : List ℕ → Bool
-is_name word = nat_lt 0 (length word) && nat_le (length word) MAX_NAME_BYTES && list_all is_name_byte word
 
 -- what a word asks for that a name follows
 abbrev pub named_line : (verb name : List ℕ) → Option KeeperLine

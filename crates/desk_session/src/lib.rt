@@ -7,18 +7,15 @@ mod asking;
 mod desk;
 mod fault;
 mod laws;
-mod limits;
 mod loading;
-mod names;
 mod replies;
 mod request;
 
 pub use desk::Desk;
 pub use fault::DeskFault;
 pub use instance_store::{Instance, NoMemory};
-pub use laws::loaded_scenarios;
-pub use limits::MAX_NAME_BYTES;
-pub use scenario_keeper::Keeper;
+pub use laws::{desks_can_be_loaded, kept_scenarios, loaded_scenarios};
+pub use scenario_keeper::{Keeper, MAX_NAME_BYTES};
 pub use whatif_session::Reply;
 
 #[cfg(test)]

@@ -3,8 +3,8 @@ ghost use Rattle.std.specs.Prelude.{◌≡◌, ◌∷◌, [], option_map, bytes_
 ghost use Rattle.desk_session.specs.Asked.{asked_of};
 ghost use Rattle.desk_session.specs.Lines.{keeper_line, keeper_words, named_line};
 
-use crate::names::name;
 use number_words::LineWords;
+use scenario_keeper::as_name;
 
 /// What a line asks of the keeper.
 #[derive(Debug, Drop)]
@@ -31,7 +31,7 @@ pub(crate) fn keeper_request(line: &[u8]) -> Option<KeeperRequest<'_>>
     if words.next().is_some() {
         return None;
     }
-    named(verb, name(word)?)
+    named(verb, as_name(word)?)
 }
 
 // What a word asks for behind which nothing stands.
