@@ -33,7 +33,7 @@ NAMES = [b"a", b"b", b"B-2", b"_", b"a_1", b"x" * 64]
 BAD_NAMES = [b"x" * 65, b"a.b", b"a b", b"", b"\xc3\xa9", b"a/b", b"\xff"]
 # What has to come, so that the check doesn't become empty.
 DUE = ["keep", "load", "forget", "names", "refused NoScenario", "refused BadCommand", "loads of edits", "loads behind a solve",
-       "edits undone behind a load", "solves behind a load", "names of several"]
+       "edits undone behind a load", "solves behind a load", "names of several", "names of 64 bytes", "names of 65 bytes"]
 
 
 class BadScenario(Exception):
@@ -64,6 +64,8 @@ class Desk(sessions.Session):
 
     def judge(self, line, said):
         verb, *words = re.split(rb"[ \t\r]+", line.strip(b" \t\r"))
+        if VERBS.get(verb) == 1 == len(words) and len(words[0]) in (64, 65):
+            self.found[f"names of {len(words[0])} bytes"] += 1
         if VERBS.get(verb) == len(words) and all(map(NAME.match, words)):
             due = "".join(f"{it}\n" for it in self.answer(verb, *words))
             found = "".join(lines_to_end(said)) if verb == b"names" else next(said, "")

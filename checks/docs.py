@@ -19,7 +19,7 @@ CHECKER, READERS, PRINTS = "certificate_check", ("ufllib_read", "orlib_read", "p
 TESTS = {it for it in CRATES if it.endswith("_rows")} | {"example_instances", "memory_runs"}
 # Words that stand in the place of names: the prover's, the forms', placeholders and the kit's crates.
 OTHER = {"List", "m", "n", "main", "duals", "cap", "uncap", "ufl", "pmed", "own", "capacity", "check",
-         "indexmap", "itoa", "thiserror", "circular_buffer", "json", "serde_json", "rand_core", "rand_xoshiro"}
+         "indexmap", "itoa", "thiserror", "circular_buffer", "json", "serde_json", "rand_core", "rand_xoshiro", "sqlite", "sqlite_value"}
 RULE = re.compile(r"\|[-| ]+\|\Z")
 QUOTED = re.compile(r"`([^`\n]+)`")
 NAME = re.compile(r"[A-Za-z]\w*(?:(?:::|\.)[A-Za-z]\w*)*\Z")

@@ -27,6 +27,8 @@ WRITTEN = [(BASE, 0, [], "ok edits 0\n"), (BASE, 2, [(1, b"fixed 1 30"), (2, b" 
            (BASE, 1, [(2, b"fixed 1 1")], FAILED), (BASE, 2, [(1, b"fixed 1 1")], FAILED), (BASE, 0, [(1, b"fixed 1 1")], FAILED),
            (BASE.decode(), 0, [], FAILED), (BASE, 1, [(1, "fixed 1 1")], FAILED), (BASE, "one", [(1, b"fixed 1 1")], FAILED),
            (None, 0, [], FAILED), (BASE, None, [], FAILED), (BASE, 1, [(1, None)], FAILED), (BASE, 1, [(None, b"fixed 1 1")], FAILED)]
+# A session holds no more edits.
+MOST_EDITS = 10_000
 
 
 def due(shown, found, wanted):
@@ -145,3 +147,15 @@ def written(scene):
         scene.sql(*TABLES, ("INSERT INTO scenario VALUES (?, ?, 0)", (name, BASE)))
         scene.refuse(f"the name {name!r}", asked=[b"names"])
     return len(WRITTEN) + 6
+
+
+def longest(scene):
+    """A scenario of as many edits as a session holds is loaded, takes no further edit, and is kept again; one with an edit more is refused."""
+    for many in MOST_EDITS, MOST_EDITS + 1:
+        scene.sql(*TABLES, ("INSERT INTO scenario VALUES ('c', ?, ?)", (BASE, many)),
+                  *[("INSERT INTO line VALUES ('c', ?, ?)", (k, b"fixed 1 30")) for k in range(1, many + 1)])
+        desk, loaded = scene.desk(), f"ok edits {MOST_EDITS}\n"
+        talk = [(b"load c", loaded), (b"fixed 1 10", "refused SessionFull\n"), (b"keep d", "ok\n"), (b"undo", "ok\n"), (b"load d", loaded)]
+        for line, wanted in talk if many == MOST_EDITS else [(b"load c", f"refused BadScenario line {many}\n"), (b"undo", "refused NothingToUndo\n")]:
+            scene.say(desk, line, wanted, f"{many} edits")
+        due(f"{many} edits", desk.end(), ("", DONE))

@@ -15,7 +15,7 @@ import time
 from common import differs, main, money
 from desks import STORE, table_in
 from instances import DONE
-from odd_stores import ASKED, BASE, FAILED, Scene, due, full, strange, unwritable, written
+from odd_stores import ASKED, BASE, FAILED, Scene, due, full, longest, strange, unwritable, written
 
 KILLS, LINES, AT_ONCE = 200, 300, 5
 
@@ -106,6 +106,7 @@ def check(program, many=KILLS, *words):
     scene = Scene(program)
     done = kills(scene, int(many))
     two(scene)
+    longest(scene)
     odd, told, is_full, is_read_only = strange(scene), written(scene), full(scene), unwritable(scene)
     without = "".join(f", without {name}" for name, it in [("a full disk", is_full), ("a store that is read-only", is_read_only)] if not it)
     return (f"stores: {scene.count} replies are as is due: of {many} desks that were killed while they kept {done} had kept, and no store held a part; "

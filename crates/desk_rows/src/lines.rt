@@ -81,3 +81,18 @@ fn refuses_a_scenario_with_another_line(rt: HostRuntime) -> Result<(), Fail> {
     assert!(rt; refuses_scenario(rt.alloc())?);
     Ok(())
 }
+
+// A name of 64 bytes is one, and a name of 65 bytes is none.
+fn ends_names_at_64(alloc: Global) -> Result<bool, Fail> {
+    let lines =
+        "keep nnnnnnnnnnnnnnnnnnnnnnnnnnnnnnnnnnnnnnnnnnnnnnnnnnnnnnnnnnnnnnnn\nload nnnnnnnnnnnnnnnnnnnnnnnnnnnnnnnnnnnnnnnnnnnnnnnnnnnnnnnnnnnnnnnn\nkeep nnnnnnnnnnnnnnnnnnnnnnnnnnnnnnnnnnnnnnnnnnnnnnnnnnnnnnnnnnnnnnnnn\nload nnnnnnnnnnnnnnnnnnnnnnnnnnnnnnnnnnnnnnnnnnnnnnnnnnnnnnnnnnnnnnnnn\nforget nnnnnnnnnnnnnnnnnnnnnnnnnnnnnnnnnnnnnnnnnnnnnnnnnnnnnnnnnnnnnnnnn\nforget nnnnnnnnnnnnnnnnnnnnnnnnnnnnnnnnnnnnnnnnnnnnnnnnnnnnnnnnnnnnnnnn\nnames\n";
+    let replies =
+        "ok\nok edits 0\nrefused BadCommand\nrefused BadCommand\nrefused BadCommand\nok\nend\n";
+    Ok(on_two_sites(0, lines, replies).is_met(alloc, Calls::sound(7))?)
+}
+
+#[test]
+fn takes_names_of_64_bytes(rt: HostRuntime) -> Result<(), Fail> {
+    assert!(rt; ends_names_at_64(rt.alloc())?);
+    Ok(())
+}
