@@ -55,7 +55,7 @@ impl Steps<'_> {
             if squares < FLAT {
                 return;
             }
-            let stride = (target - self.progress.last_bound() + 1.0) / squares;
+            let stride = (target - self.progress.last_bound()) / squares;
             step_ahead(&mut self.customers, stride);
             self.evaluate(order);
             self.keep_better();

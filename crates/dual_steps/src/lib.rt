@@ -4,9 +4,12 @@
 //! believed: of it is proved that it comes, and what its lengths are. Numbers are floats, in millionths.
 #![tactic(auto)]
 
+mod ahead;
 mod choosing;
 mod closing;
 pub mod customer;
+mod favouring;
+mod near;
 mod payers;
 mod paying;
 mod progress;

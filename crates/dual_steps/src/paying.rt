@@ -2,6 +2,7 @@
 ghost use Rattle.std.specs.Prelude.{◌≡◌, ◌<◌, length};
 
 use crate::customer::Customer;
+use crate::near::{NearLane, NearLanes};
 use crate::site::Site;
 use instance_store::{Instance, LaneRow};
 use lane_order::LaneOrder;
@@ -18,6 +19,7 @@ pub(crate) fn float_cost(cost: u64) -> f64 {
 /// Fills in the slacks of the sites at the duals that are evaluated. The answer is the sum of the duals.
 pub(crate) fn fill_slacks(
     order: &LaneOrder,
+    near: &NearLanes,
     customers: &mut [Customer],
     sites: &[Site],
     slacks: &mut [f64],
@@ -33,7 +35,10 @@ pub(crate) fn fill_slacks(
     for j in 0..customers.len() {
         let value = customers[j].value;
         sum += value;
-        customers[j].paid = pay(order, j, value, slacks);
+        customers[j].paid = match near.below(j, value) {
+            Some(lanes) => pay_near(lanes, value, slacks),
+            None => pay(order, j, value, slacks),
+        };
     }
     sum
 }
@@ -45,6 +50,26 @@ fn fill_costs(sites: &[Site], slacks: &mut [f64])
     for i in 0..slacks.len() {
         slacks[i] = sites[i].fixed;
     }
+}
+
+// Takes off the slacks what a customer pays with this dual, whose cheapest lanes these are. The answer is how many of
+// them it pays.
+fn pay_near(lanes: &[NearLane], value: f64, slacks: &mut [f64]) -> usize
+    ensures { length slacks.new ≡ length slacks.old }
+{
+    let mut paid = 0usize;
+    for lane in lanes {
+        let cost = lane.cost();
+        if value <= cost {
+            return paid;
+        }
+        let site = lane.site();
+        if site < slacks.len() {
+            slacks[site] -= value - cost;
+        }
+        paid = paid.wrapping_add(1);
+    }
+    paid
 }
 
 // Takes off the slacks what the customer at place `j` pays with this dual. The answer is how many lanes it
@@ -73,6 +98,7 @@ const ROW_SHARE: usize = 2;
 /// lanes from the open sites where these are far fewer than the lanes that are paid, and else by those.
 pub(crate) fn fill_slopes(
     order: &LaneOrder,
+    near: &NearLanes,
     inst: &Instance,
     open: &[bool],
     customers: &mut [Customer],
@@ -86,7 +112,7 @@ pub(crate) fn fill_slopes(
     if open_count(open).saturating_mul(customers.len()) < paid_count(customers) / ROW_SHARE {
         fill_by_site(inst, open, customers);
     } else {
-        fill_by_customer(order, open, customers);
+        fill_by_customer(order, near, open, customers);
     }
 }
 
@@ -143,14 +169,30 @@ fn lower_slopes(lanes: &LaneRow, customers: &mut [Customer])
     }
 }
 
-fn fill_by_customer(order: &LaneOrder, open: &[bool], customers: &mut [Customer])
+fn fill_by_customer(order: &LaneOrder, near: &NearLanes, open: &[bool], customers: &mut [Customer])
     requires customers { length customers.old ≡ length order.now.lanes }
     requires open { length open.now ≡ length order.now.sites }
     ensures { length customers.new ≡ length customers.old }
 {
     for j in 0..customers.len() {
-        customers[j].slope = slope(order, j, customers[j].paid, open);
+        let one = customers[j];
+        customers[j].slope = match near.below(j, one.value) {
+            Some(lanes) => slope_near(lanes, one.paid, open),
+            None => slope(order, j, one.paid, open),
+        };
     }
+}
+
+// The slope of a customer that pays so many of these lanes.
+fn slope_near(lanes: &[NearLane], paid: usize, open: &[bool]) -> f64 {
+    let mut count = 0u64;
+    for lane in lanes.get(..paid).unwrap_or(&[]) {
+        let site = lane.site();
+        if site < open.len() && open[site] {
+            count = count.wrapping_add(1);
+        }
+    }
+    1.0 - float_cost(count)
 }
 
 // The slope of a customer that pays so many lanes.

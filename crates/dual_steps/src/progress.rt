@@ -7,8 +7,8 @@ use instance_store::{Instance, NoMemory};
 use std::alloc::Global;
 use std::marker::Model;
 
-// How near to the cost a bound has to come: costs are whole millionths.
-const LEAST_LEFT: f64 = 0.9999;
+// How near to the cost a bound has to come: costs are whole millionths, and duals lose a little when they are rounded.
+const LEAST_LEFT: f64 = 0.9;
 
 /// The bounds at the duals that are evaluated and at the best, in millionths, the sites that are taken
 /// there, by place, and how often each site was taken.

@@ -4,6 +4,7 @@ ghost use Rattle.dual_steps.specs.Sizes.{sizes_of, Suits};
 ghost use Rattle.lane_order.specs.Order.{IsOrderOf};
 
 use crate::customer::{Customer, fill_smooth, keep_values, recall_values, resume_smooth};
+use crate::near::NearLanes;
 use crate::paying::{fill_slacks, fill_slopes};
 use crate::progress::Progress;
 use crate::rounding::{fill_rounded, nearest_whole, take_rounded, take_values};
@@ -20,7 +21,8 @@ use std::num::nearest_u64_to_f64;
 /// Duals of an instance without capacities, by floats, and the arrays in which they take steps.
 #[derive(Drop)]
 pub struct Steps<'a> {
-    inst: &'a Instance,
+    pub(crate) inst: &'a Instance,
+    pub(crate) near: NearLanes,
     pub(crate) customers: Vec<Customer>,
     pub(crate) sites: Vec<Site>,
     pub(crate) slacks: Vec<f64>,
@@ -59,6 +61,7 @@ impl<'a> Steps<'a> {
         requires { IsOrderOf order.now inst.now }
         ensures { IfOk result (λ steps. steps ≡ sizes_of inst.now) }
     {
+        let near = NearLanes::of(alloc, order, inst.custs())?;
         let customers = customers_of(alloc, inst, order)?;
         let sites = sites_of(alloc, inst)?;
         let slacks = vec![in alloc; 0.0; inst.sites()]?;
@@ -67,6 +70,7 @@ impl<'a> Steps<'a> {
         let rounded = vec![in alloc; 0; inst.custs()]?;
         Ok(Steps {
             inst,
+            near,
             customers,
             sites,
             slacks,
@@ -194,9 +198,22 @@ impl<'a> Steps<'a> {
         requires { Suits self.old order.now }
         ensures { self.new ≡ self.old }
     {
-        let sum = fill_slacks(order, &mut self.customers, &self.sites, &mut self.slacks);
+        self.near.renew(order, &self.customers);
+        let sum = fill_slacks(
+            order,
+            &self.near,
+            &mut self.customers,
+            &self.sites,
+            &mut self.slacks,
+        );
         self.progress.evaluate(sum, &self.sites, &self.slacks);
-        fill_slopes(order, self.inst, self.progress.taken(), &mut self.customers);
+        fill_slopes(
+            order,
+            &self.near,
+            self.inst,
+            self.progress.taken(),
+            &mut self.customers,
+        );
     }
 
     // Takes the duals as the best.
