@@ -57,6 +57,11 @@ pub(crate) const CLOSING_ROUNDS: u32 = 10;
 
 pub(crate) const CLOSING_STEPS: u32 = 100;
 
+/// Where less than this part of the target is left, a round has so many steps.
+pub(crate) const LAST_PART: f64 = 0.000001;
+
+pub(crate) const LAST_STEPS: u32 = 1000;
+
 pub(crate) const CLOSING_SWEEPS: u32 = 50;
 
 // Leaves of a tree that was carried over edits.
@@ -173,3 +178,31 @@ pub(crate) const FEW: usize = 8;
 
 /// How far a share has to be from 0 and 1 to count.
 pub(crate) const LEAST_DOUBT: f64 = 0.01;
+
+// Splits in boxes whose steps gain little, where little is left. Chosen on networks of 100 to 900 vertices.
+
+/// Where less than this part of the target is left, and the steps in a box took off less than such a part of it, they go
+/// on with costs that favour the best plan's sites, by one of so many parts of what is left, until shares change by less
+/// than so much in sum.
+pub(crate) const FAVOUR_PART: f64 = 0.002;
+
+pub(crate) const FAVOUR_GAIN: f64 = 0.1;
+
+pub(crate) const FAVOURED: f64 = 40.0;
+
+pub(crate) const SETTLED: f64 = 0.3;
+
+/// The steps of a round, after how many misses they become shorter, and the most rounds.
+pub(crate) const FAVOUR_STEPS: u32 = 50;
+
+pub(crate) const FAVOUR_MISSES: u32 = 20;
+
+pub(crate) const FAVOUR_ROUNDS: u32 = 4;
+
+/// The parts of the box are looked into for so many sites, in doubt at least such a part as much as the first, and each
+/// gain counts as at least such a part of what is left.
+pub(crate) const LOOKED_AT: usize = 8;
+
+pub(crate) const LOOKED_DOUBT: f64 = 0.5;
+
+pub(crate) const LEAST_GAIN: f64 = 0.001;

@@ -10,6 +10,7 @@ mod full;
 mod kept;
 mod knapsacks;
 mod leaves;
+mod lookout;
 mod plans;
 mod prices;
 mod pricing;

@@ -8,15 +8,16 @@ ghost use Rattle.search_strategy.specs.Sizes.{Suits};
 
 use crate::beginning::{Beginning, Regrowth};
 use crate::constants::{
-    CLOSING_ROUNDS, CLOSING_STEPS, CLOSING_SWEEPS, DECIDED, HINTS, LEAF_GAIN, LEAF_ROUNDS, NEAR,
-    NODE_FACTOR, NODE_MISSES, NODE_STEPS, RESUMED_FACTOR, ROUND_FACTOR, ROUND_MISSES, ROUND_STEPS,
-    ROUND_SWEEPS, ROUNDS,
+    CLOSING_ROUNDS, CLOSING_STEPS, CLOSING_SWEEPS, DECIDED, FAVOUR_GAIN, FAVOUR_PART, HINTS,
+    LAST_PART, LAST_STEPS, LEAF_GAIN, LEAF_ROUNDS, NEAR, NODE_FACTOR, NODE_MISSES, NODE_STEPS,
+    RESUMED_FACTOR, ROUND_FACTOR, ROUND_MISSES, ROUND_STEPS, ROUND_SWEEPS, ROUNDS,
 };
 use crate::course::Course;
 use crate::full::price_in;
 use crate::kept::FirstBox;
+use crate::lookout::{Lookout, has_many_free};
 use crate::plans::{Hint, Plans};
-use crate::splitting::split_place;
+use crate::splitting::{bound_of, split_place};
 use crate::widening::widen;
 use dual_steps::Steps;
 use dual_value::Duals;
@@ -81,6 +82,9 @@ pub(crate) struct Stepping<'a> {
     pub(crate) stage: Stage,
     pub(crate) work: Work,
     course: Course,
+    lookout: Lookout,
+    // The bound with which the box was entered, in millionths.
+    entered: f64,
     pub(crate) rounds: u32,
     // How much the best plan cost above the bound of the steps before the round.
     pub(crate) before: f64,
@@ -102,6 +106,7 @@ impl<'a> Stepping<'a> {
     {
         let steps = Steps::of(alloc, inst, order)?;
         let plans = Plans::of(alloc, inst)?;
+        let lookout = Lookout::of(alloc, inst)?;
         let Beginning {
             regrowth,
             first,
@@ -113,6 +118,8 @@ impl<'a> Stepping<'a> {
             stage: Stage::Start,
             work: Work::Root,
             course: Course::new(),
+            lookout,
+            entered: 0.0,
             rounds: 0,
             before: 0.0,
             first,
@@ -149,9 +156,43 @@ impl<'a> Stepping<'a> {
     }
 
     /// On which site to split the box.
-    pub(crate) fn wish(&self, scene: &Scene<'_, '_>) -> Option<Wish> {
+    pub(crate) fn wish(&mut self, scene: &Scene<'_, '_>) -> Option<Wish>
+        requires { IsScene scene.now }
+    {
+        if let Some(place) = self.looked_place(scene) {
+            return Some(Wish::Site(place));
+        }
         let place = split_place(scene, None, self.steps.progress().shares())?;
         Some(Wish::Site(place))
+    }
+
+    // Where little is left and the steps took off little of it: the site that looks best.
+    fn looked_place(&mut self, scene: &Scene<'_, '_>) -> Option<usize>
+        requires { IsScene scene.now }
+    {
+        if !suits(&self.steps, &self.plans, scene)
+            || !has_many_free(scene)
+            || !self.is_stuck(scene)
+        {
+            return None;
+        }
+        self.plans.flag_opened(scene);
+        self.lookout
+            .favour(&mut self.steps, scene, &self.plans.flags);
+        self.lookout.best_place(&mut self.steps, scene)
+    }
+
+    // Whether the number of open sites has a price, little is left, and the steps in the box took off little of it. It is
+    // always tried in the first box.
+    fn is_stuck(&self, scene: &Scene<'_, '_>) -> bool {
+        let target = target(scene);
+        let bound = bound_of(scene);
+        let left = target - bound;
+        self.steps.is_smooth()
+            && self.steps.count_price() != 0
+            && NEAR * target < left
+            && left < FAVOUR_PART * target
+            && (scene.is_first || bound - self.entered < FAVOUR_GAIN * left)
     }
 
     /// What is known of the first box.
@@ -164,6 +205,7 @@ impl<'a> Stepping<'a> {
     fn start(&mut self, scene: &Scene<'_, '_>) -> Result<Move, NoMemory>
         requires { Suits scene.now self.old.steps self.old.plans.flags.items }
     {
+        self.entered = bound_of(scene);
         if self.regrowth.begins(scene.boxed.path())? {
             let stage = if scene.is_first {
                 Stage::Near
@@ -241,7 +283,7 @@ impl<'a> Stepping<'a> {
         match self.work {
             Work::Root => {
                 if self.rounds >= ROUNDS || self.course.is_over() {
-                    return Ok(Move::Done);
+                    return Ok(self.end_rounds(scene));
                 }
                 self.stage = Stage::Plans(0);
                 self.round(scene)?;
@@ -378,6 +420,17 @@ impl<'a> Stepping<'a> {
         Move::Nothing
     }
 
+    // Behind the rounds in the first box: goes on where the bound may come up to the target.
+    fn end_rounds(&mut self, scene: &Scene<'_, '_>) -> Move
+        requires { Suits scene.now self.old.steps self.old.plans.flags.items }
+    {
+        if is_near(&self.steps, scene) {
+            self.close(scene)
+        } else {
+            Move::Done
+        }
+    }
+
     // Sees whether the box may close without a split.
     fn review_node(&mut self, scene: &Scene<'_, '_>) -> Move
         requires { Suits scene.now self.old.steps self.old.plans.flags.items }
@@ -385,6 +438,14 @@ impl<'a> Stepping<'a> {
         if !may_close(&self.steps, scene) {
             return Move::Done;
         }
+        self.close(scene)
+    }
+
+    // Goes on to exactly the target.
+    fn close(&mut self, scene: &Scene<'_, '_>) -> Move
+        requires { Suits scene.now self.old.steps self.old.plans.flags.items }
+    {
+        self.stage = Stage::Steps;
         self.work = Work::Closing;
         self.rounds = 0;
         self.refer_to_plan(scene);
@@ -464,7 +525,12 @@ fn close_in(steps: &mut Steps<'_>, scene: &Scene<'_, '_>) -> Result<(), NoMemory
     ensures { steps.new ≡ steps.old }
 {
     let target = target(scene);
-    steps.polyak(scene.order, target, CLOSING_STEPS);
+    let count = if left(steps, scene) < LAST_PART * target {
+        LAST_STEPS
+    } else {
+        CLOSING_STEPS
+    };
+    steps.polyak(scene.order, target, count);
     steps.project(scene.alloc, scene.order, target, CLOSING_SWEEPS)?;
     steps.snap(scene.order, target);
     Ok(())
