@@ -33,8 +33,8 @@ root_of I = leaf_of I (zeros I 1)
 abbrev pub probed : Instance → ℕ → Instance
 probed I at = without_costs (below_cost I at)
 
--- A search of a probe's instance that found no plan and didn't show that there is none: its tree grew from the root leaf, at no leaf did packing give a
--- plan, a leaf is open, its splits made no more nodes than the budget allows, and one more split would.
+-- A search of a probe's instance that found no plan and didn't show that there is none: its tree grew from the root leaf, at no leaf by prices of scale 1 or
+-- more did packing on its tight sites give a plan, a leaf is open, its splits made no more nodes than the budget allows, and one more split would.
 pub record IsOpenProbe (Z : Instance) (budget : ℕ) (probe : Tree) : Type 0 where
   pub grown : IsGrownFrom Z None None (root_of Z) probe
   pub sought : PlansWereSought Z probe None

@@ -30,17 +30,18 @@ pub fn curve(alloc: Global, inst: &Instance, count: u32, budget: u32) -> Result<
     ensures holds { IfOk result (λ a. ClaimHolds (with_exact_count inst.now count) (claim_in (with_exact_count inst.now count) a) (plan_in a)) }
     ensures decided { 2 ^ (most_decisions inst.now + 1) ≤ budget → IfOk result IsDecided }
 {
-    curve_from(alloc, inst, count, budget, None)
+    curve_from(alloc, inst, count, budget, &mut Hint::none())
 }
 
-/// The same, and sooner, where the hint is from the answer for a number of sites nearby: the search begins with that plan
-/// and those duals. What it comes to is as good whatever the hint is. It fails only where memory runs out.
+/// The same, and sooner, where the hint is from entries for numbers of sites nearby: the search begins with what those left,
+/// and the hint takes over what this one leaves. What it comes to is as good whatever the hint is. It fails only where
+/// memory runs out.
 pub fn curve_from(
     alloc: Global,
     inst: &Instance,
     count: u32,
     budget: u32,
-    hint: Option<&Hint>,
+    hint: &mut Hint,
 ) -> Result<Answer, NoMemory>
     requires count { count ≤ MAX_SITES }
     requires within { IsWithin inst.now budget }

@@ -1,34 +1,56 @@
-//! Where a search may begin, by the answer to a search of an instance that differs in the number of sites that may open.
+//! Where a search may begin, by a search of an instance that differs in the number of sites that may open.
 
-use dual_value::Duals;
+use crate::former::Former;
 use instance_store::{Instance, NoMemory};
 use plan_meaning::Plan;
-use search_strategy::{Kept, KeptCustomer, KeptSite};
+use search_strategy::Kept;
 use std::alloc::Global;
-use tree_search::{Answer, Tree};
+use tree_search::Answer;
 
-/// The plan and the duals of an answer. Nothing of them is believed: a search that begins with them comes to an answer
-/// that is as good as any.
+// The splits of a tree are taken over where it has at most the nodes of the budget divided by this, and where so many
+// sites may open that one more or less changes little.
+const BUDGET_PART: u32 = 4;
+
+const MANY_SITES: u32 = 8;
+
+/// What former searches left: the last one's plan and the numbers of its first box, and the splits of the last tree that
+/// has some. Nothing of it is believed: a search that begins with it comes to an answer that is as good as any.
 #[derive(Drop)]
 pub struct Hint {
     // The sites that the plan opens, by place, if there is a plan.
     pub(crate) near: Option<Vec<bool>>,
     pub(crate) kept: Option<Kept>,
+    pub(crate) former: Option<Former>,
 }
 
 impl Hint {
-    /// What the answer to a search of this instance leaves, with whatever number of sites that may open. It fails only
-    /// where memory runs out.
-    pub fn of(alloc: Global, inst: &Instance, answer: &Answer) -> Result<Hint, NoMemory> {
-        let near = match plan_of(answer) {
+    /// Before the first search.
+    pub fn none() -> Hint {
+        Hint {
+            near: None,
+            kept: None,
+            former: None,
+        }
+    }
+
+    /// Takes over the answer to a search of this instance with this budget of nodes. It fails only where memory runs out.
+    pub(crate) fn take(
+        &mut self,
+        alloc: Global,
+        inst: &Instance,
+        budget: u32,
+        answer: &Answer,
+    ) -> Result<(), NoMemory> {
+        self.near = match plan_of(answer) {
             None => None,
             Some(plan) => Some(flags_of(alloc, inst, plan)?),
         };
-        let kept = match first_duals(answer.tree()) {
-            None => None,
-            Some(duals) => Some(kept_duals(alloc, inst, duals)?),
-        };
-        Ok(Hint { near, kept })
+        // To retrace a tree may take as many nodes as it has, and is to leave most of the budget.
+        let nodes = answer.tree().nodes();
+        if nodes > 1 && nodes <= budget / BUDGET_PART && inst.count().1 >= MANY_SITES {
+            self.former = Some(Former::of(alloc, answer.tree())?);
+        }
+        Ok(())
     }
 }
 
@@ -47,46 +69,4 @@ fn flags_of(alloc: Global, inst: &Instance, plan: &Plan) -> Result<Vec<bool>, No
         flags.push(plan.opens(inst.site_id(site)))?;
     }
     Ok(flags)
-}
-
-// The duals of the first leaf that has some. Those of scale 0 say nothing of costs.
-fn first_duals(tree: &Tree) -> Option<&Duals> {
-    for at in 0..tree.nodes() {
-        if let Some(duals) = tree.duals(at)
-            && duals.q() > 0
-        {
-            return Some(duals);
-        }
-    }
-    None
-}
-
-// The duals as what a search leaves. It fails only where memory runs out.
-fn kept_duals(alloc: Global, inst: &Instance, duals: &Duals) -> Result<Kept, NoMemory> {
-    let mut customers = Vec::with_capacity(alloc, inst.custs())?;
-    for cust in 0..inst.custs().min(duals.customers()) {
-        customers.push(KeptCustomer {
-            id: inst.cust_id(cust),
-            dual: duals.v(cust),
-            stepped: duals.v(cust),
-            slope: 0.0,
-        })?;
-    }
-    let mut sites = Vec::with_capacity(alloc, inst.sites())?;
-    for site in 0..inst.sites().min(duals.sites()) {
-        sites.push(KeptSite {
-            id: inst.site_id(site),
-            price: duals.u(site),
-            share: 0.0,
-        })?;
-    }
-    Ok(Kept {
-        scale: duals.q(),
-        count_price: duals.nu(),
-        step_scale: duals.q(),
-        is_smooth: false,
-        is_whole: false,
-        customers,
-        sites,
-    })
 }

@@ -4,6 +4,7 @@
 
 mod answer;
 mod counted;
+mod former;
 mod greatest;
 mod hint;
 mod known;

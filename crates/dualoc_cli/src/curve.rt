@@ -61,23 +61,22 @@ fn draw_lines<O: Sink>(
         (sink_state (O.written out.old) (O.faults out.old) (O.refusals out.old))
         (sink_state (O.written out.new) (O.faults out.new) (O.refusals out.new))) }
 {
-    let mut hint = None;
+    let mut hint = Hint::none();
     for more in 0..last + 1 - first {
-        let next = draw_line(alloc, inst, first + more, budget, hint.as_ref(), out)?;
-        hint = Some(next);
+        draw_line(alloc, inst, first + more, budget, &mut hint, out)?;
     }
     Ok(())
 }
 
-// Prints the line of a number of sites, and gives the hint for the next one.
+// Prints the line of a number of sites. The hint takes over what its search leaves.
 fn draw_line<O: Sink>(
     alloc: Global,
     inst: &Instance,
     count: u32,
     budget: u32,
-    hint: Option<&Hint>,
+    hint: &mut Hint,
     out: &mut O,
-) -> Result<Hint, Halt>
+) -> Result<(), Halt>
     requires few { count ≤ MAX_SITES }
     requires within { IsWithin inst.now budget }
     ensures drawn { IfOk result (λ done. HasDrawn inst.now budget count
@@ -89,9 +88,8 @@ fn draw_line<O: Sink>(
 {
     let answer = curve_from(alloc, inst, count, budget, hint)?;
     let line = line(alloc, inst, count, budget, &answer)?;
-    let next = Hint::of(alloc, inst, &answer)?;
     write_whole(out, &line)?;
-    Ok(next)
+    Ok(())
 }
 
 // The line of what a search comes to where a plan opens just so many sites.

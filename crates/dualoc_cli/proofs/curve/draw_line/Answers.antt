@@ -13,9 +13,6 @@ returns-in_err-answer-clause-undrawn g c = let p = err_from_is_err_and c.from_re
 pub returns-in_err-line-clause-undrawn : goal.returns-in_err-line-clause-undrawn
 returns-in_err-line-clause-undrawn g c = let p = err_from_is_err_and c.from_residual-in_err-line.result c.from_residual-in_err-line.ensures.1 in rw (p.1, p.2) refl
 
-pub returns-in_err-next-clause-undrawn : goal.returns-in_err-next-clause-undrawn
-returns-in_err-next-clause-undrawn g c = let p = err_from_is_err_and c.from_residual-in_err-next.result c.from_residual-in_err-next.ensures.1 in rw (p.1, p.2) refl
-
 pub returns-in_err-write_whole-clause-undrawn : goal.returns-in_err-write_whole-clause-undrawn
 returns-in_err-write_whole-clause-undrawn g c =
     let p = err_from_is_err_and c.from_residual-in_err-write_whole.result c.from_residual-in_err-write_whole.ensures.1 in

@@ -7,10 +7,10 @@ pub loop-more-init : goal.loop-more-init
 loop-more-init g c = none_drawn c.args.inst.now c.args.budget c.args.first _
 
 pub loop-more-preserved : goal.loop-more-preserved
-loop-more-preserved g c = drawn_more c.args.inst.now c.args.budget c.args.first c.loop-more.more _ _ _ c.loop-more.invariant c.in_ok-next.ensures.drawn
+loop-more-preserved g c = drawn_more c.args.inst.now c.args.budget c.args.first c.loop-more.more _ _ _ c.loop-more.invariant c.in_ok-draw_line.ensures.drawn
 
-pub returns-in_err-next-clause-halted : goal.returns-in_err-next-clause-halted
-returns-in_err-next-clause-halted g c =
+pub returns-in_err-draw_line-clause-halted : goal.returns-in_err-draw_line-clause-halted
+returns-in_err-draw_line-clause-halted g c =
     let p = err_from_is_err_and c.from_residual.result c.from_residual.ensures.1 in
     rw (p.1, p.2)
-    (stops_drawing c.args.inst.now c.args.budget c.args.first c.args.last c.loop-more.more _ _ _ _ (omega (arith, c.requires.rises)) c.loop-more.invariant c.in_err-next.ensures.undrawn)
+    (stops_drawing c.args.inst.now c.args.budget c.args.first c.args.last c.loop-more.more _ _ _ _ (omega (arith, c.requires.rises)) c.loop-more.invariant c.in_err-draw_line.ensures.undrawn)

@@ -1,7 +1,7 @@
 use Rattle.std.proofs.Common.{None, subst}
 use Rattle.tree_search.specs.Answer.{IsAnswerTo}
 use Rattle.tree_search.proofs.Started.{started}
-use Rattle.center_solve.proofs.searched.grown.Goals as goal
+use Rattle.center_solve.proofs.searched.grown_by.Goals as goal
 
 pub grow-requires-clause-start : goal.grow-requires-clause-start
 grow-requires-clause-start g c = started c.args.inst.now c.args.budget _ c.requires.within c.in_ok-tree.ensures
