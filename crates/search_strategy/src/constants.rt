@@ -179,13 +179,15 @@ pub(crate) const FEW: usize = 8;
 /// How far a share has to be from 0 and 1 to count.
 pub(crate) const LEAST_DOUBT: f64 = 0.01;
 
-// Splits in boxes whose steps gain little, where little is left. Chosen on networks of 100 to 900 vertices.
+// Where a number of sites is asked for and little is left. Chosen on networks of 100 to 900 vertices.
 
-/// Where less than this part of the target is left, and the steps in a box took off less than such a part of it, they go
-/// on with costs that favour the best plan's sites, by one of so many parts of what is left, until shares change by less
-/// than so much in sum.
-pub(crate) const FAVOUR_PART: f64 = 0.002;
+/// A box is tight where less than this part of the target is left. So many steps are taken there.
+pub(crate) const TIGHT_PART: f64 = 0.002;
 
+pub(crate) const TIGHT_STEPS: u32 = 120;
+
+/// Where these took off less than such a part of what is left, they go on with costs that favour the best plan's sites,
+/// by one of so many parts of what is left, until shares change by less than so much in sum.
 pub(crate) const FAVOUR_GAIN: f64 = 0.1;
 
 pub(crate) const FAVOURED: f64 = 40.0;

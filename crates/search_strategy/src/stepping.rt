@@ -8,9 +8,9 @@ ghost use Rattle.search_strategy.specs.Sizes.{Suits};
 
 use crate::beginning::{Beginning, Regrowth};
 use crate::constants::{
-    CLOSING_ROUNDS, CLOSING_STEPS, CLOSING_SWEEPS, DECIDED, FAVOUR_GAIN, FAVOUR_PART, HINTS,
-    LAST_PART, LAST_STEPS, LEAF_GAIN, LEAF_ROUNDS, NEAR, NODE_FACTOR, NODE_MISSES, NODE_STEPS,
-    RESUMED_FACTOR, ROUND_FACTOR, ROUND_MISSES, ROUND_STEPS, ROUND_SWEEPS, ROUNDS,
+    CLOSING_ROUNDS, CLOSING_STEPS, CLOSING_SWEEPS, DECIDED, FAVOUR_GAIN, HINTS, LAST_PART,
+    LAST_STEPS, LEAF_GAIN, LEAF_ROUNDS, NEAR, NODE_FACTOR, NODE_MISSES, NODE_STEPS, RESUMED_FACTOR,
+    ROUND_FACTOR, ROUND_MISSES, ROUND_STEPS, ROUND_SWEEPS, ROUNDS, TIGHT_PART, TIGHT_STEPS,
 };
 use crate::course::Course;
 use crate::full::price_in;
@@ -182,17 +182,20 @@ impl<'a> Stepping<'a> {
         self.lookout.best_place(&mut self.steps, scene)
     }
 
-    // Whether the number of open sites has a price, little is left, and the steps in the box took off little of it. It is
-    // always tried in the first box.
+    // Whether the box is tight, and the steps in it took off little of what is left. The first box always counts as such.
     fn is_stuck(&self, scene: &Scene<'_, '_>) -> bool {
         let target = target(scene);
         let bound = bound_of(scene);
         let left = target - bound;
         self.steps.is_smooth()
-            && self.steps.count_price() != 0
             && NEAR * target < left
-            && left < FAVOUR_PART * target
+            && self.is_tight(left, target)
             && (scene.is_first || bound - self.entered < FAVOUR_GAIN * left)
+    }
+
+    // Whether the number of open sites has a price, and so little is left that choices lie close to each other.
+    fn is_tight(&self, left: f64, target: f64) -> bool {
+        self.steps.count_price() != 0 && left < TIGHT_PART * target
     }
 
     /// What is known of the first box.
@@ -329,9 +332,14 @@ impl<'a> Stepping<'a> {
     {
         let target = target(scene);
         if !is_near(&self.steps, scene) {
+            let left = left(&self.steps, scene);
+            let steps = if self.is_tight(left, target) {
+                TIGHT_STEPS
+            } else {
+                NODE_STEPS
+            };
             self.steps.set_factor(NODE_FACTOR);
-            self.steps
-                .volume(scene.order, target, NODE_STEPS, NODE_MISSES);
+            self.steps.volume(scene.order, target, steps, NODE_MISSES);
             return;
         }
         self.refer_to_plan(scene);
