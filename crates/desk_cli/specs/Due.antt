@@ -54,7 +54,7 @@ pub record IsDeskRow (r : RunOfDesk) (stop : Stop) (row : List ℕ) : Type 0 whe
 abbrev pub HoldsDesk : RunOfDesk → Type 0
 HoldsDesk r = (stop : Stop) × (row : List ℕ) × IsDeskRow r stop row
 
--- no line of the input was read: all is as before, the scenarios too, and no reply was due
+-- no line of the input was read: files, input and scenarios are as before
 pub record IsDeskUnbegun (r : RunOfDesk) : Type 0 where
   pub files : r.after.shelf.files ≡ r.before.shelf.files
   pub input : r.after.input ≡ r.before.input
@@ -134,7 +134,7 @@ pub record RunsDesk (r : RunOfDesk) (status : DeskStatus) : Type 0 where
   -- the output refused no call where the desk is done, nor where no write failed and memory didn't run out, also where it tells nothing: then all of the text that is due is in it
   pub taken : status ≡ Done → r.after.output.refusals.count ≡ r.before.output.refusals.count
   pub unrefused : (Rose r.before.output.faults r.after.output.faults → ⊥) → (status ≡ NoMemory → ⊥) → r.after.output.refusals.count ≡ r.before.output.refusals.count
-  -- words that are not those of a desk are answered so
+  -- words that are not those of a desk are answered so, unless memory runs out
   pub usage : desk_file r.words ≡ None → (status ≡ Usage) ⊎ (status ≡ NoMemory)
   -- where the files are told, what the words and the file settle gives the status, unless the run is hindered, and else the desk ends as its input says
   pub exact : (files : Files) → r.before.shelf.files ≡ Some files → (reply : DeskReply) → IsDeskRefusal r reply → DeskEndsAs r (session_status (desk_status reply)) status

@@ -22,8 +22,8 @@ pub record IsDeskBegun (I : Instance) (shelf : ShelfState) (keeper : KeeperState
   pub keeper_is : first.keeper ≡ keeper
   pub writes : NeverFalls shelf.writes first.moment.failed_writes
 
--- A desk on an instance, between two states of the shelf, of the input and of the keeper. At its end, too, the lines are those of the edits in force, which lead from the base to the present instance. The files and the scenarios are as the steps left them, but for a file that was being written
--- when memory ran out.
+-- A desk on an instance, between two states of the shelf, of the input and of the keeper. At its end, too, the lines are those of the edits in force, which lead from the base to
+-- the present instance. The files and the scenarios are as the steps left them, but for a file that was being written when memory ran out.
 pub record DeskRun (limits : InputLimits) (I : Instance) (shelf shelf_after : ShelfState) (input input_after : SourceState) (keeper keeper_after : KeeperState) (stop : Stop) (replies : List ℕ) : Type 0 where
   pub bytes : List ℕ
   pub given : MayGive input.left bytes

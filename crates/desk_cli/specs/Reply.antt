@@ -37,7 +37,7 @@ session_reply Ended = replies.Reached outcome.Ended
 abbrev pub desk_text : DeskReply → List ℕ
 desk_text reply = text_of (session_reply reply)
 
--- the reply to an input that was stepped through, and none where memory ran out or the output refused a reply
+-- the reply to the end of an input, or to why no more of it was read; none where memory ran out or the output refused a reply
 abbrev pub stop_reply : Stop → Option DeskReply
 stop_reply AtEnd = Some Ended
 stop_reply AtLongLine = Some LongLine

@@ -7,7 +7,7 @@ use Rattle.whatif_session.specs.declared.limits.TheConstants.{MAX_EDITS}
 use Rattle.whatif_session.specs.State.{SessionView, IsPresent}
 use Rattle.desk_session.specs.State.{AreLinesOf}
 
--- the session holds the edits of these lines, which lead from its base to its instance, and nothing was solved
+-- the session holds these lines' edits and no solve; they are few enough, and lead from its base to its instance
 pub record HoldsLines (lines : List (List ℕ)) (session : SessionView) : Type 0 where
   pub lines_of : AreLinesOf lines session.state.edits
   pub few : length session.state.edits ≤ MAX_EDITS
@@ -15,7 +15,7 @@ pub record HoldsLines (lines : List (List ℕ)) (session : SessionView) : Type 0
   pub unsolved : (session.state.solves ≡ []) × (session.state.present ≡ None) × (session.state.standing ≡ None)
   pub serials : All (λ held. held.serial ≡ None) session.state.edits
 
--- the base of the session is the instance of the scenario's text, and its edits are those of the scenario's lines
+-- the scenario's text, within its limit, means the session's base, and the session holds the edits of its lines
 pub record LeadsTo (scenario : Scenario) (session : SessionView) : Type 0 where
   pub within : length scenario.base ≤ MAX_INSTANCE_BYTES
   pub base : own_meaning scenario.base ≡ Ok session.state.base

@@ -21,7 +21,7 @@ abbrev pub holding : SessionView → Edit → Result Instance EditFault → Resu
 holding session e (Ok J) = Ok record { state = with_edit session.state e; instance = J }
 holding session e (Err refusal) = Err (next_line session)
 
--- a line that is no edit is refused, and so is any edit where no more are held
+-- the same of a line: it is refused, too, where it is no edit, and where the session holds as many as it may
 abbrev pub holding_line : SessionView → Option Edit → Result SessionView ℕ
 holding_line session None = Err (next_line session)
 holding_line session (Some e) = if nat_le MAX_EDITS (length session.state.edits) then Err (next_line session) else holding session e (edited session.instance e)
@@ -31,11 +31,12 @@ abbrev pub held_next : Result SessionView ℕ → List ℕ → Result SessionVie
 held_next (Ok session) line = holding_line session (line_edit line)
 held_next (Err n) line = Err n
 
--- the base of a scenario is an instance in the own form, on which a session begins without a tree
+-- the session that begins on the instance which a base's text means; 0 where it means none
 abbrev pub begun_with : Result Instance FileFault → Result SessionView ℕ
 begun_with (Ok I) = Ok (session_on I)
 begun_with (Err fault) = Err 0
 
+-- and 0, too, where the text is longer than that of an instance may be
 abbrev pub based_on : List ℕ → Result SessionView ℕ
 based_on base = if nat_lt MAX_INSTANCE_BYTES (length base) then Err 0 else begun_with (own_meaning base)
 

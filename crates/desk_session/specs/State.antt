@@ -10,7 +10,7 @@ use Rattle.session_lines.specs.Lines.{line_edit}
 use Rattle.whatif_session.specs.State.{SessionState, SessionView, session_on}
 use Rattle.whatif_session.specs.Step.{Moment, moment_at}
 
--- a session with its present instance, and the lines of the edits that are in force, as they were typed
+-- a session with its present instance, and lines, which are to be those of its edits in force (`AreLinesOf`)
 pub record DeskView : Type 0 where
   pub session : SessionView
   pub lines : List (List ℕ)
@@ -40,7 +40,7 @@ pub record KeeperState : Type 0 where
 abbrev pub keeper_state : Option Table → ℕ → KeeperState
 keeper_state table faults = record { table = table; faults = faults }
 
--- a desk at a moment of its run: the session at that moment, its lines, and the keeper
+-- a desk at a moment of its run: its session with the files, its lines, and the keeper
 pub record DeskMoment : Type 0 where
   pub moment : Moment
   pub lines : List (List ℕ)

@@ -1,6 +1,6 @@
--- One step of a desk: what a line does to the session, to the keeper's scenarios and to the files, and its reply. A line of the session is a step of that. What a line asks of the
--- keeper is a function of the desk and of the scenarios, with one exception: it may be refused `KeeperFailed` instead, and only where the keeper's count rose in this line. Where a
--- keeper tells nothing, some scenarios stand in the place of its own: which ones, no clause can say.
+-- One step of a desk: what a line does to the session, to the keeper's scenarios and to the files, and its reply. A line of the session is a step of the session. What another one
+-- does is a function of the desk and of the scenarios, with one exception: it may be refused `KeeperFailed` instead, and only where the keeper's count of faults rose in this line.
+-- Where a keeper tells nothing, it may find any scenario or none, and list any names that rise: no clause says which.
 use Rattle.std.specs.Prelude.{◌≡◌, ◌⊎◌, ℕ, ◌≤◌, Bool, true, false, List, length, Option, None, Some, Result, Ok, Err}
 use Rattle.shelf_port.specs.Files.{Rose, NeverFalls}
 use Rattle.location_terms.specs.Instance.{Instance}
@@ -38,7 +38,7 @@ pub record LeavesAtDesk (text : List ℕ) (session : SessionState) (lines : List
 abbrev pub TellsAtDesk : List ℕ → Option Table → DeskMoment → List ℕ → DeskMoment → Type 0
 TellsAtDesk text told old reply new = LeavesAtDesk text old.moment.session old.lines told old reply new
 
--- a refusal changes nothing
+-- a refusal changes neither the desk nor the scenarios
 abbrev pub Refuses : DeskFault → DeskMoment → List ℕ → DeskMoment → Type 0
 Refuses why old reply new = TellsAtDesk (desk_refusal_text why) old.keeper.table old reply new
 
@@ -47,17 +47,17 @@ abbrev pub TakesUp : (lines : List (List ℕ)) → Result SessionView ℕ → De
 TakesUp lines (Ok session) old reply new = LeavesAtDesk (loaded_text (length lines)) session.state lines old.keeper.table old reply new
 TakesUp lines (Err line) old reply new = Refuses (fault.BadScenario line) old reply new
 
--- what the keeper found is loaded
+-- what the keeper found is loaded; where it found nothing, the line is refused
 abbrev pub Loads : Option Scenario → DeskMoment → List ℕ → DeskMoment → Type 0
 Loads None old reply new = Refuses fault.NoScenario old reply new
 Loads (Some scenario) old reply new = TakesUp scenario.edits (loaded scenario) old reply new
 
--- the name is taken out, where the keeper says that it was there
+-- the name is taken out, where the keeper says that it was there; else the line is refused
 abbrev pub Forgets : Bool → List ℕ → DeskMoment → List ℕ → DeskMoment → Type 0
 Forgets true name old reply new = TellsAtDesk ok_text (without_name old.keeper.table name) old reply new
 Forgets false name old reply new = Refuses fault.NoScenario old reply new
 
--- what is asked of the keeper is done
+-- what follows where the keeper answers: what is asked is done, or refused for want of a good scenario
 abbrev pub DoesAsAsked : KeeperLine → DeskMoment → List ℕ → DeskMoment → Type 0
 DoesAsAsked (Keep name) old reply new = TellsAtDesk ok_text (with_scenario old.keeper.table name (scenario_of old.moment.session old.lines)) old reply new
 DoesAsAsked (Load name) old reply new = (found : Option Scenario) × Finds old.keeper.table name found × Loads found old reply new

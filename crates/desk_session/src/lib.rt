@@ -15,7 +15,7 @@ pub use desk::Desk;
 pub use fault::DeskFault;
 pub use instance_store::{Instance, NoMemory};
 pub use laws::{desks_can_be_loaded, kept_scenarios, loaded_scenarios};
-pub use scenario_keeper::{Keeper, MAX_NAME_BYTES};
+pub use scenario_keeper::Keeper;
 pub use whatif_session::Reply;
 
 #[cfg(test)]

@@ -4,7 +4,7 @@ ghost use Rattle.dual_steps.specs.Sizes.{Suits};
 
 use crate::Steps;
 use crate::customer::{FLAT, recall_within, step_ahead, turn};
-use crate::payers::{Payers, sweep};
+use crate::payers::{Payers, Spot, spots_of, sweep, take_spots};
 use crate::paying::{fill_limits, widen_limits};
 use crate::site::is_within;
 use crate::snapping::{set_aside, snap_to};
@@ -12,8 +12,16 @@ use instance_store::NoMemory;
 use lane_order::LaneOrder;
 use std::alloc::Global;
 
-// Sweeps go on where so many of them take off at least a tenth of what is left.
-const REVIEW: u32 = 100;
+// After how many sweeps the bound is looked at.
+const LOOK: u32 = 10;
+
+// Sweeps go on where so many of them leave at most such a part of what slacks are off by.
+const REVIEW: u32 = 50;
+
+const MOST_OFF: f64 = 0.85;
+
+// More than slacks are off by, in millionths.
+const PLENTY: f64 = 1000000000000000000.0;
 
 // Fractions of the costs' unit on which duals of a vertex stand, and how far from them they are looked
 // for, in parts of what is left.
@@ -63,7 +71,7 @@ impl Steps<'_> {
     }
 
     /// Mends the slacks of the sites one after the other, up to so many times, so that they fit the plan
-    /// that is referred to. It does nothing where that isn't in the box, and fails only where memory
+    /// that is referred to, and the price of the number of open sites along with the duals, where it has one. It does nothing where that isn't in the box, and fails only where memory
     /// runs out.
     pub fn project(
         &mut self,
@@ -82,33 +90,41 @@ impl Steps<'_> {
         self.evaluate(order);
         self.keep_better();
         let payers = Payers::of(alloc, order, &self.customers, self.sites.len())?;
-        self.sweep_all(order, &payers, target, sweeps);
+        let mut spots = spots_of(alloc, &self.customers)?;
+        self.sweep_all(order, &payers, &mut spots, target, sweeps);
         Ok(())
     }
 
-    fn sweep_all(&mut self, order: &LaneOrder, payers: &Payers, target: f64, sweeps: u32)
+    fn sweep_all(
+        &mut self,
+        order: &LaneOrder,
+        payers: &Payers,
+        spots: &mut [Spot],
+        target: f64,
+        sweeps: u32,
+    )
         requires { Suits self.old order.now }
         ensures { self.new ≡ self.old }
     {
-        let mut mark = self.progress.bound();
+        let mut price = self.progress.last_count_price();
+        let moves = price != 0.0;
+        let mut mark = PLENTY;
         for turn in 0..sweeps {
             if self.progress.reaches(target) {
                 return;
             }
-            sweep(
-                payers,
-                &self.sites,
-                &self.plan,
-                self.progress.last_count_price(),
-                &mut self.customers,
-            );
-            self.evaluate(order);
-            self.keep_better();
+            let swept = sweep(payers, &self.sites, &self.plan, price, moves, spots);
+            price = swept.extra;
+            if turn % LOOK == LOOK - 1 {
+                take_spots(spots, &mut self.customers);
+                self.evaluate(order);
+                self.keep_better();
+            }
             if turn % REVIEW == REVIEW - 1 {
-                if self.progress.bound() - mark < 0.1 * (target - mark) {
+                if swept.off > MOST_OFF * mark {
                     return;
                 }
-                mark = self.progress.bound();
+                mark = swept.off;
             }
         }
     }

@@ -69,6 +69,15 @@ pub fn recall_values(customers: &mut [Customer])
     }
 }
 
+/// Takes the duals that were kept as the best.
+pub(crate) fn recall_kept(customers: &mut [Customer])
+    ensures { length customers.new ≡ length customers.old }
+{
+    for j in 0..customers.len() {
+        customers[j].best = customers[j].kept;
+    }
+}
+
 /// Goes back to the best duals, put between those that the plan suggests.
 pub fn recall_within(customers: &mut [Customer])
     ensures { length customers.new ≡ length customers.old }

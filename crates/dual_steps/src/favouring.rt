@@ -1,29 +1,59 @@
-//! Fixed costs that favour some sites, so that smoothed steps tell of one among many best choices.
-ghost use Rattle.std.specs.Prelude.{◌≡◌, ◌<◌, length};
+//! Costs that favour some sites, so that smoothed steps tell of one among many best choices, and what it gains there to
+//! settle a site.
+ghost use Rattle.std.specs.Prelude.{◌≡◌, length};
 ghost use Rattle.dual_steps.specs.Sizes.{Suits};
 
 use crate::Steps;
+use crate::customer::recall_kept;
 use crate::site::Site;
+use crate::snapping::set_aside;
+use dual_value::SiteState;
 use lane_order::LaneOrder;
 
 impl Steps<'_> {
-    /// Takes smoothed steps as if these sites, by place, cost `bonus` millionths less, and the others as much more. It
-    /// is a whole number. Of what the steps have come to only what is smoothed makes sense then, until they start anew.
-    pub fn favour(
-        &mut self,
-        order: &LaneOrder,
-        favoured: &[bool],
-        bonus: f64,
-        target: f64,
-        steps: u32,
-        misses: u32,
-    )
-        requires { Suits self.old order.now }
+    /// Lets these sites, by place, cost `bonus` millionths less, and the others as much more. It is a whole number. Until
+    /// costs are as before, only what is smoothed makes sense.
+    pub fn favour(&mut self, favoured: &[bool], bonus: f64)
         ensures { self.new ≡ self.old }
     {
         shift_costs(&mut self.sites, favoured, bonus);
-        self.volume(order, target - bonus * open_count(favoured), steps, misses);
-        shift_costs(&mut self.sites, favoured, -bonus);
+    }
+
+    /// Keeps the best duals aside: `gain_ahead` begins with them.
+    pub fn set_aside(&mut self)
+        ensures { self.new ≡ self.old }
+    {
+        set_aside(&mut self.customers);
+    }
+
+    /// By how much so many smoothed steps raise the bound from the duals that were set aside, in millionths, in the part
+    /// of the box in which the site at this place is in this state. They begin with this part of a whole step, and nothing
+    /// that was smoothed before.
+    pub fn gain_ahead(
+        &mut self,
+        order: &LaneOrder,
+        site: usize,
+        state: SiteState,
+        factor: f64,
+        target: f64,
+        steps: u32,
+        misses: u32,
+    ) -> f64
+        requires { Suits self.old order.now }
+        ensures { self.new ≡ self.old }
+    {
+        if site >= self.sites.len() {
+            return 0.0;
+        }
+        recall_kept(&mut self.customers);
+        self.recall(order);
+        let before = self.progress.bound();
+        let was = self.sites[site].state;
+        self.sites[site].state = state;
+        self.restart(factor);
+        self.volume(order, target, steps, misses);
+        self.sites[site].state = was;
+        self.progress.bound() - before
     }
 }
 
@@ -37,14 +67,4 @@ fn shift_costs(sites: &mut [Site], favoured: &[bool], bonus: f64)
             sites[i].fixed += bonus;
         }
     }
-}
-
-fn open_count(open: &[bool]) -> f64 {
-    let mut count = 0.0;
-    for i in 0..open.len() {
-        if open[i] {
-            count += 1.0;
-        }
-    }
-    count
 }

@@ -4,7 +4,6 @@
 //! believed: of it is proved that it comes, and what its lengths are. Numbers are floats, in millionths.
 #![tactic(auto)]
 
-mod ahead;
 mod choosing;
 mod closing;
 pub mod customer;

@@ -1,5 +1,5 @@
 //! Which customers may pay which sites, and sweeps that mend one slack after the other.
-ghost use Rattle.std.specs.Prelude.{◌≡◌, ◌<◌, ◌≤◌, length};
+ghost use Rattle.std.specs.Prelude.{◌≡◌, ◌<◌, ◌≤◌, IfOk, length};
 
 use crate::customer::Customer;
 use crate::paying::float_cost;
@@ -144,52 +144,119 @@ fn place(site: usize, payer: Payer, ends: &mut [usize], payers: &mut [Payer])
     }
 }
 
+/// A customer's dual while slacks are mended, between its limits.
+#[derive(Clone, Copy)]
+pub(crate) struct Spot {
+    value: f64,
+    low: f64,
+    high: f64,
+}
+
+/// The duals of the customers, by place. It fails only where memory runs out.
+pub(crate) fn spots_of(alloc: Global, customers: &[Customer]) -> Result<Vec<Spot>, NoMemory>
+    ensures { IfOk result (λ spots. length spots.items ≡ length customers.now) }
+{
+    let none = Spot {
+        value: 0.0,
+        low: 0.0,
+        high: 0.0,
+    };
+    let mut spots = vec![in alloc; none; customers.len()]?;
+    for j in 0..customers.len() {
+        spots[j] = Spot {
+            value: customers[j].value,
+            low: customers[j].low,
+            high: customers[j].high,
+        };
+    }
+    Ok(spots)
+}
+
+/// Lets the duals of the customers be these.
+pub(crate) fn take_spots(spots: &[Spot], customers: &mut [Customer])
+    ensures { length customers.new ≡ length customers.old }
+{
+    for j in 0..customers.len() {
+        if j < spots.len() {
+            customers[j].value = spots[j].value;
+        }
+    }
+}
+
+/// What a sweep comes to.
+#[derive(Clone, Copy)]
+pub(crate) struct Swept {
+    /// The price of the number of open sites.
+    pub(crate) extra: f64,
+    /// By how much slacks were off in all.
+    pub(crate) off: f64,
+}
+
 /// Mends the slack of each free site once: those of the plan's sites from above 0, those of the others
-/// from below 0, each by the same change of all customers that can make it. Sites cost so much `extra`.
+/// from below 0, each by the same change of all customers that can make it. Sites cost so much `extra`, which
+/// changes along with the customers where it `moves`.
 pub(crate) fn sweep(
     payers: &Payers,
     sites: &[Site],
     plan: &[bool],
     extra: f64,
-    customers: &mut [Customer],
-)
+    moves: bool,
+    spots: &mut [Spot],
+) -> Swept
     requires { length plan.now ≡ length sites.now }
-    ensures { length customers.new ≡ length customers.old }
+    ensures { length spots.new ≡ length spots.old }
 {
+    let others = if moves { 1.0 } else { 0.0 };
+    let mut swept = Swept { extra, off: 0.0 };
     for i in 0..sites.len() {
         if matches!(sites[i].state, SiteState::Free) {
-            mend(
+            let mended = mend(
                 payers.of_site(i),
                 plan[i],
-                sites[i].fixed + extra,
-                customers,
+                sites[i].fixed + swept.extra,
+                others,
+                spots,
             );
+            swept.extra -= others * mended.step;
+            swept.off += mended.off;
         }
     }
+    swept
 }
 
-fn mend(payers: &[Payer], in_plan: bool, fixed: f64, customers: &mut [Customer])
-    ensures { length customers.new ≡ length customers.old }
+// By how much a slack was off, and by how much each customer's dual rose for it.
+#[derive(Clone, Copy)]
+struct Mended {
+    off: f64,
+    step: f64,
+}
+
+// Mends a slack, where so many others move along with the customers.
+fn mend(payers: &[Payer], in_plan: bool, fixed: f64, others: f64, spots: &mut [Spot]) -> Mended
+    ensures { length spots.new ≡ length spots.old }
 {
-    let slack = slack_of(payers, fixed, customers);
+    let slack = slack_of(payers, fixed, spots);
     if in_plan && slack > 0.0 {
-        let movers = raisable(payers, customers);
-        if movers > 0.0 {
-            raise(payers, slack / movers, customers);
-        }
-    } else if !in_plan && slack < 0.0 {
-        let movers = lowerable(payers, customers);
-        if movers > 0.0 {
-            lower(payers, -slack / movers, customers);
-        }
+        let step = slack / (others + raisable(payers, spots)).max(1.0);
+        raise(payers, step, spots);
+        return Mended { off: slack, step };
+    }
+    if !in_plan && slack < 0.0 {
+        let step = slack / (others + lowerable(payers, spots)).max(1.0);
+        lower(payers, -step, spots);
+        return Mended { off: -slack, step };
+    }
+    Mended {
+        off: 0.0,
+        step: 0.0,
     }
 }
 
-fn slack_of(payers: &[Payer], fixed: f64, customers: &[Customer]) -> f64 {
+fn slack_of(payers: &[Payer], fixed: f64, spots: &[Spot]) -> f64 {
     let mut slack = fixed;
     for payer in payers {
-        if payer.customer < customers.len() {
-            let value = customers[payer.customer].value;
+        if payer.customer < spots.len() {
+            let value = spots[payer.customer].value;
             if payer.cost < value {
                 slack -= value - payer.cost;
             }
@@ -198,11 +265,11 @@ fn slack_of(payers: &[Payer], fixed: f64, customers: &[Customer]) -> f64 {
     slack
 }
 
-fn raisable(payers: &[Payer], customers: &[Customer]) -> f64 {
+fn raisable(payers: &[Payer], spots: &[Spot]) -> f64 {
     let mut movers = 0.0;
     for payer in payers {
-        if payer.customer < customers.len() {
-            let one = customers[payer.customer];
+        if payer.customer < spots.len() {
+            let one = spots[payer.customer];
             if payer.cost <= one.value && one.value < one.high {
                 movers += 1.0;
             }
@@ -211,24 +278,24 @@ fn raisable(payers: &[Payer], customers: &[Customer]) -> f64 {
     movers
 }
 
-fn raise(payers: &[Payer], step: f64, customers: &mut [Customer])
-    ensures { length customers.new ≡ length customers.old }
+fn raise(payers: &[Payer], step: f64, spots: &mut [Spot])
+    ensures { length spots.new ≡ length spots.old }
 {
     for payer in payers {
-        if payer.customer < customers.len() {
-            let one = customers[payer.customer];
+        if payer.customer < spots.len() {
+            let one = spots[payer.customer];
             if payer.cost <= one.value && one.value < one.high {
-                customers[payer.customer].value = (one.value + step).min(one.high);
+                spots[payer.customer].value = (one.value + step).min(one.high);
             }
         }
     }
 }
 
-fn lowerable(payers: &[Payer], customers: &[Customer]) -> f64 {
+fn lowerable(payers: &[Payer], spots: &[Spot]) -> f64 {
     let mut movers = 0.0;
     for payer in payers {
-        if payer.customer < customers.len() {
-            let one = customers[payer.customer];
+        if payer.customer < spots.len() {
+            let one = spots[payer.customer];
             if payer.cost < one.value && one.low < one.value {
                 movers += 1.0;
             }
@@ -237,14 +304,14 @@ fn lowerable(payers: &[Payer], customers: &[Customer]) -> f64 {
     movers
 }
 
-fn lower(payers: &[Payer], step: f64, customers: &mut [Customer])
-    ensures { length customers.new ≡ length customers.old }
+fn lower(payers: &[Payer], step: f64, spots: &mut [Spot])
+    ensures { length spots.new ≡ length spots.old }
 {
     for payer in payers {
-        if payer.customer < customers.len() {
-            let one = customers[payer.customer];
+        if payer.customer < spots.len() {
+            let one = spots[payer.customer];
             if payer.cost < one.value && one.low < one.value {
-                customers[payer.customer].value = (one.value - step).max(one.low);
+                spots[payer.customer].value = (one.value - step).max(one.low);
             }
         }
     }

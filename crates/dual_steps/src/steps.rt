@@ -146,6 +146,11 @@ impl<'a> Steps<'a> {
         self.factor = factor;
     }
 
+    /// Whether the plan that is referred to is in the box.
+    pub fn is_plan_within(&self) -> bool {
+        self.is_plan_within
+    }
+
     /// The part of a whole step that smoothed steps have come to.
     pub fn factor(&self) -> f64 {
         self.factor

@@ -2,7 +2,7 @@
 use Rattle.std.specs.Prelude.{ℕ, ◌-◌, List, [], ◌∷◌, ◌++◌, length, take, refl}
 use Rattle.std.specs.Coded.{Coded, code_by, coded×, coded_list, coded_ℕ}
 
--- a scenario: the text of its base instance, and the lines of the edits that lead on from it, in order
+-- a scenario: a text for its base, and a line for each edit, in order; what they mean is for a load to say
 pub record Scenario : Type 0 where
   pub base : List ℕ
   pub edits : List (List ℕ)

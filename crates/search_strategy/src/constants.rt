@@ -179,17 +179,22 @@ pub(crate) const FEW: usize = 8;
 /// How far a share has to be from 0 and 1 to count.
 pub(crate) const LEAST_DOUBT: f64 = 0.01;
 
-// Where a number of sites is asked for and little is left. Chosen on networks of 100 to 900 vertices.
+// Where little is left: where a number of sites is asked for, or many boxes didn't suffice. Chosen on networks of 100 to
+// 900 vertices and on files of 500 to 1,000 sites in the plane.
 
-/// A box is tight where less than this part of the target is left. So many steps are taken there.
+/// A box is tight where less than this part of the target is left, and without such a number behind so many boxes. So many
+/// steps are taken there.
 pub(crate) const TIGHT_PART: f64 = 0.002;
+
+pub(crate) const PLAIN_BOXES: u32 = 16;
 
 pub(crate) const TIGHT_STEPS: u32 = 120;
 
-/// Where these took off less than such a part of what is left, they go on with costs that favour the best plan's sites,
-/// by one of so many parts of what is left, until shares change by less than so much in sum.
-pub(crate) const FAVOUR_GAIN: f64 = 0.1;
+/// The most sweeps there.
+pub(crate) const TIGHT_SWEEPS: u32 = 2000;
 
+/// Before such a box is split, steps go on with costs that favour the best plan's sites, by one of so many parts of what
+/// is left, until shares change by less than so much in sum.
 pub(crate) const FAVOURED: f64 = 40.0;
 
 pub(crate) const SETTLED: f64 = 0.3;
@@ -199,10 +204,14 @@ pub(crate) const FAVOUR_STEPS: u32 = 50;
 
 pub(crate) const FAVOUR_MISSES: u32 = 20;
 
-pub(crate) const FAVOUR_ROUNDS: u32 = 4;
+pub(crate) const FAVOUR_ROUNDS: u32 = 24;
 
-/// The parts of the box are looked into for so many sites, in doubt at least such a part as much as the first, and each
-/// gain counts as at least such a part of what is left.
+/// The parts of the box are looked into, by so many steps, which begin with such a part of a whole one, for so many sites, in doubt at least such a part as much as the
+/// first, and each gain counts as at least such a part of what is left.
+pub(crate) const LOOK_STEPS: u32 = 30;
+
+pub(crate) const LOOK_FACTOR: f64 = 0.5;
+
 pub(crate) const LOOKED_AT: usize = 8;
 
 pub(crate) const LOOKED_DOUBT: f64 = 0.5;

@@ -3,8 +3,8 @@ ghost use Rattle.std.specs.Prelude.{◌≡◌, IfOk, length};
 ghost use Rattle.dual_steps.specs.Sizes.{Suits as HasLanes};
 
 use crate::constants::{
-    FAVOUR_MISSES, FAVOUR_ROUNDS, FAVOUR_STEPS, FAVOURED, FEW, LEAST_DOUBT, LEAST_GAIN, LOOKED_AT,
-    LOOKED_DOUBT, NODE_FACTOR, SETTLED,
+    FAVOUR_MISSES, FAVOUR_ROUNDS, FAVOUR_STEPS, FAVOURED, FEW, LEAST_DOUBT, LEAST_GAIN,
+    LOOK_FACTOR, LOOK_STEPS, LOOKED_AT, LOOKED_DOUBT, NODE_FACTOR, NODE_MISSES, SETTLED,
 };
 use crate::splitting::{bound_of, is_free};
 use crate::stepping::target;
@@ -17,8 +17,8 @@ use strategy_port::Scene;
 /// The arrays in which the parts of a box are looked into.
 #[derive(Drop)]
 pub(crate) struct Lookout {
-    rooms: Vec<f64>,
-    // The shares before the last steps, by site.
+    // What was smoothed before: slopes by customer, and shares by site.
+    slopes: Vec<f64>,
     shares: Vec<f64>,
     // The sites that are looked at, by how much doubt there is.
     sites: Vec<usize>,
@@ -28,67 +28,87 @@ impl Lookout {
     /// For this instance. It fails only where memory runs out.
     pub(crate) fn of(alloc: Global, inst: &Instance) -> Result<Lookout, NoMemory> {
         Ok(Lookout {
-            rooms: vec![in alloc; 0.0; inst.sites()]?,
+            slopes: vec![in alloc; 0.0; inst.custs()]?,
             shares: vec![in alloc; 0.0; inst.sites()]?,
             sites: vec![in alloc; 0; LOOKED_AT]?,
         })
     }
 
-    /// Lets the shares of the steps be those of one best choice of sites near the best plan's, which are flagged.
-    pub(crate) fn favour(&mut self, steps: &mut Steps<'_>, scene: &Scene<'_, '_>, flags: &[bool])
+    /// The free site whose two parts gain most, among those most in doubt, with costs that favour the flagged sites. What
+    /// is smoothed is that of such costs then, and the best duals of the steps make no sense until they start anew.
+    pub(crate) fn best_place(
+        &mut self,
+        steps: &mut Steps<'_>,
+        scene: &Scene<'_, '_>,
+        flags: &[bool],
+    ) -> Option<usize>
+        requires { HasLanes steps.old scene.now.order.now }
+        ensures { steps.new ≡ steps.old }
+    {
+        let left = target(scene) - bound_of(scene);
+        let bonus = (left / FAVOURED).floor();
+        steps.favour(flags, bonus);
+        let aim = Aim {
+            target: target(scene) - bonus * count(flags),
+            left,
+        };
+        self.settle(steps, scene, aim);
+        let best = self.doubtful_place(steps, scene, aim);
+        steps.favour(flags, -bonus);
+        best
+    }
+
+    // Takes rounds of steps until shares settle.
+    fn settle(&mut self, steps: &mut Steps<'_>, scene: &Scene<'_, '_>, aim: Aim)
         requires { HasLanes steps.old scene.now.order.now }
         ensures { steps.new ≡ steps.old }
     {
         steps.set_factor(NODE_FACTOR);
-        let bonus = ((target(scene) - bound_of(scene)) / FAVOURED).floor();
         for _round in 0..FAVOUR_ROUNDS {
-            if self.favour_once(steps, scene, flags, bonus) {
+            copy_shares(steps.progress().shares(), &mut self.shares);
+            steps.volume(scene.order, aim.target, FAVOUR_STEPS, FAVOUR_MISSES);
+            if distance(steps.progress().shares(), &self.shares) < SETTLED {
                 return;
             }
         }
     }
 
-    // A round of such steps. Whether the shares have settled.
-    fn favour_once(
+    // The site whose two parts gain most, from what the steps have come to. What is smoothed stays.
+    fn doubtful_place(
         &mut self,
         steps: &mut Steps<'_>,
         scene: &Scene<'_, '_>,
-        flags: &[bool],
-        bonus: f64,
-    ) -> bool
-        requires { HasLanes steps.old scene.now.order.now }
-        ensures { steps.new ≡ steps.old }
-    {
-        copy_shares(steps.progress().shares(), &mut self.shares);
-        steps.favour(
-            scene.order,
-            flags,
-            bonus,
-            target(scene),
-            FAVOUR_STEPS,
-            FAVOUR_MISSES,
-        );
-        distance(steps.progress().shares(), &self.shares) < SETTLED
-    }
-
-    /// The free site whose two parts gain most, among those most in doubt.
-    pub(crate) fn best_place(
-        &mut self,
-        steps: &mut Steps<'_>,
-        scene: &Scene<'_, '_>,
+        aim: Aim,
     ) -> Option<usize>
         requires { HasLanes steps.old scene.now.order.now }
         ensures { steps.new ≡ steps.old }
     {
         let count = doubtful_sites(scene, steps.progress().shares(), &mut self.sites);
-        steps.start_from(scene.order, scene.duals.values(), scene.duals.q());
-        let left = target(scene) - steps.progress().bound();
+        steps.fill_slopes(&mut self.slopes);
+        copy_shares(steps.progress().shares(), &mut self.shares);
+        steps.set_aside();
+        let best = self.best_of(steps, scene, aim, count);
+        steps.resume(&self.slopes, &self.shares, NODE_FACTOR);
+        best
+    }
+
+    // The best of the first sites in doubt, so many of them.
+    fn best_of(
+        &self,
+        steps: &mut Steps<'_>,
+        scene: &Scene<'_, '_>,
+        aim: Aim,
+        count: usize,
+    ) -> Option<usize>
+        requires { HasLanes steps.old scene.now.order.now }
+        ensures { steps.new ≡ steps.old }
+    {
         let mut best = None;
         let mut greatest = 0.0;
         for k in 0..count {
             if k < self.sites.len() {
                 let site = self.sites[k];
-                let worth = self.worth(steps, scene, site, left);
+                let worth = worth(steps, scene, aim, site);
                 if worth > greatest {
                     greatest = worth;
                     best = Some(site);
@@ -97,18 +117,55 @@ impl Lookout {
         }
         best
     }
+}
 
-    // What the parts of the box gain for this site.
-    fn worth(&mut self, steps: &mut Steps<'_>, scene: &Scene<'_, '_>, site: usize, left: f64) -> f64
-        requires { HasLanes steps.old scene.now.order.now }
-        ensures { steps.new ≡ steps.old }
-    {
-        let bound = steps.progress().bound();
-        let least = LEAST_GAIN * left;
-        let closed = steps.bound_ahead(scene.order, site, SiteState::Closed, &mut self.rooms);
-        let opened = steps.bound_ahead(scene.order, site, SiteState::Opened, &mut self.rooms);
-        (closed - bound).max(least).min(left) * (opened - bound).max(least).min(left)
+// What steps with favoured sites go to, and how much is left without.
+#[derive(Clone, Copy)]
+struct Aim {
+    target: f64,
+    left: f64,
+}
+
+// The product of what the two parts of the box gain for this site, each as far as that counts.
+fn worth(steps: &mut Steps<'_>, scene: &Scene<'_, '_>, aim: Aim, site: usize) -> f64
+    requires { HasLanes steps.old scene.now.order.now }
+    ensures { steps.new ≡ steps.old }
+{
+    let closed = gain(steps, scene, aim, site, SiteState::Closed);
+    let opened = gain(steps, scene, aim, site, SiteState::Opened);
+    closed * opened
+}
+
+fn gain(
+    steps: &mut Steps<'_>,
+    scene: &Scene<'_, '_>,
+    aim: Aim,
+    site: usize,
+    state: SiteState,
+) -> f64
+    requires { HasLanes steps.old scene.now.order.now }
+    ensures { steps.new ≡ steps.old }
+{
+    let gain = steps.gain_ahead(
+        scene.order,
+        site,
+        state,
+        LOOK_FACTOR,
+        aim.target,
+        LOOK_STEPS,
+        NODE_MISSES,
+    );
+    gain.max(LEAST_GAIN * aim.left).min(aim.left)
+}
+
+fn count(flags: &[bool]) -> f64 {
+    let mut count = 0.0;
+    for i in 0..flags.len() {
+        if flags[i] {
+            count += 1.0;
+        }
     }
+    count
 }
 
 fn copy_shares(from: &[f64], to: &mut [f64])

@@ -6,12 +6,15 @@ ghost use Rattle.strategy_port.specs.Scene.{IsScene};
 
 use crate::tried::Tried;
 use dual_steps::Progress;
-use dual_value::{Path, PreparedBox};
+use dual_value::{Path, PreparedBox, SiteState};
 use instance_store::{Instance, NoMemory};
 use plan_meaning::Plan;
 use plan_search::{LocalSearch, improved_set, plan_around};
 use std::alloc::Global;
 use strategy_port::{Move, Scene};
+
+// The share from which on a site is taken more often than not.
+const HALF: f64 = 0.5;
 
 /// The sites from which a plan is sought.
 #[derive(Clone, Copy)]
@@ -134,6 +137,35 @@ impl Plans {
         Ok(proposed(plan))
     }
 
+    /// Flags the sites of a plan in the box: of the best one, or where that isn't in the box, of one that is sought near
+    /// the shares, and is proposed. Without a plan some sites are flagged. It fails only where memory runs out.
+    pub(crate) fn flag_within(
+        &mut self,
+        scene: &Scene<'_, '_>,
+        progress: &Progress,
+    ) -> Result<Move, NoMemory>
+        requires { IsScene scene.now }
+        ensures { length self.new.flags.items ≡ length self.old.flags.items }
+    {
+        flag_opened(scene, &mut self.flags);
+        if is_within(scene, &self.flags) {
+            return Ok(Move::Nothing);
+        }
+        flag_shared(progress.shares(), HALF, &mut self.flags);
+        let plan = improved_set(
+            scene.alloc,
+            scene.boxed,
+            scene.order,
+            &mut self.local,
+            &self.flags,
+            None,
+        )?;
+        if let Some(plan) = &plan {
+            flag_plan(scene.boxed.instance(), plan, &mut self.flags);
+        }
+        Ok(proposed(plan))
+    }
+
     /// Flags the sites that the best plan opens.
     pub(crate) fn flag_opened(&mut self, scene: &Scene<'_, '_>)
         ensures { length self.new.flags.items ≡ length self.old.flags.items }
@@ -189,17 +221,32 @@ fn flag_shared(shares: &[f64], least: f64, flags: &mut [bool])
 fn flag_opened(scene: &Scene<'_, '_>, flags: &mut [bool])
     ensures { length flags.new ≡ length flags.old }
 {
-    let inst = scene.boxed.instance();
-    for i in 0..flags.len() {
-        flags[i] = i < inst.sites() && opens(scene, i);
+    match scene.plan {
+        None => flag_taken(&[], flags),
+        Some(plan) => flag_plan(scene.boxed.instance(), plan, flags),
     }
 }
 
-fn opens(scene: &Scene<'_, '_>, site: usize) -> bool
-    requires { site < length scene.now.boxed.now.instance.sites }
+fn flag_plan(inst: &Instance, plan: &Plan, flags: &mut [bool])
+    ensures { length flags.new ≡ length flags.old }
 {
-    match scene.plan {
-        None => false,
-        Some(plan) => plan.opens(scene.boxed.instance().site_id(site)),
+    for i in 0..flags.len() {
+        flags[i] = i < inst.sites() && plan.opens(inst.site_id(i));
     }
+}
+
+// Whether the flagged sites suit what is settled in the box.
+fn is_within(scene: &Scene<'_, '_>, flags: &[bool]) -> bool {
+    for i in 0..scene.boxed.instance().sites() {
+        let is_flagged = i < flags.len() && flags[i];
+        let suits = match scene.boxed.state(i) {
+            SiteState::Free => true,
+            SiteState::Opened => is_flagged,
+            SiteState::Closed => !is_flagged,
+        };
+        if !suits {
+            return false;
+        }
+    }
+    true
 }

@@ -8,9 +8,10 @@ ghost use Rattle.search_strategy.specs.Sizes.{Suits};
 
 use crate::beginning::{Beginning, Regrowth};
 use crate::constants::{
-    CLOSING_ROUNDS, CLOSING_STEPS, CLOSING_SWEEPS, DECIDED, FAVOUR_GAIN, HINTS, LAST_PART,
-    LAST_STEPS, LEAF_GAIN, LEAF_ROUNDS, NEAR, NODE_FACTOR, NODE_MISSES, NODE_STEPS, RESUMED_FACTOR,
-    ROUND_FACTOR, ROUND_MISSES, ROUND_STEPS, ROUND_SWEEPS, ROUNDS, TIGHT_PART, TIGHT_STEPS,
+    CLOSING_ROUNDS, CLOSING_STEPS, CLOSING_SWEEPS, DECIDED, HINTS, LAST_PART, LAST_STEPS,
+    LEAF_GAIN, LEAF_ROUNDS, NEAR, NODE_FACTOR, NODE_MISSES, NODE_STEPS, PLAIN_BOXES,
+    RESUMED_FACTOR, ROUND_FACTOR, ROUND_MISSES, ROUND_STEPS, ROUND_SWEEPS, ROUNDS, TIGHT_PART,
+    TIGHT_STEPS, TIGHT_SWEEPS,
 };
 use crate::course::Course;
 use crate::full::price_in;
@@ -83,9 +84,9 @@ pub(crate) struct Stepping<'a> {
     pub(crate) work: Work,
     course: Course,
     lookout: Lookout,
-    // The bound with which the box was entered, in millionths.
-    entered: f64,
     pub(crate) rounds: u32,
+    // In how many boxes steps were begun.
+    boxes: u32,
     // How much the best plan cost above the bound of the steps before the round.
     pub(crate) before: f64,
     // What is known of the box of the instance, and whether that came from a former search.
@@ -119,8 +120,8 @@ impl<'a> Stepping<'a> {
             work: Work::Root,
             course: Course::new(),
             lookout,
-            entered: 0.0,
             rounds: 0,
+            boxes: 0,
             before: 0.0,
             first,
             is_known,
@@ -150,7 +151,7 @@ impl<'a> Stepping<'a> {
             Stage::Plans(k) => self.seek_plan(scene, k),
             Stage::Round => self.propose(scene),
             Stage::Fine => self.propose_finely(scene),
-            Stage::Review => Ok(self.review(scene)),
+            Stage::Review => self.review(scene),
             _ => self.regrow(scene),
         }
     }
@@ -166,36 +167,31 @@ impl<'a> Stepping<'a> {
         Some(Wish::Site(place))
     }
 
-    // Where little is left and the steps took off little of it: the site that looks best.
+    // Where little is left: the site whose settling gains most.
     fn looked_place(&mut self, scene: &Scene<'_, '_>) -> Option<usize>
         requires { IsScene scene.now }
     {
         if !suits(&self.steps, &self.plans, scene)
+            || !self.steps.is_smooth()
+            || !self.is_tight(scene, target(scene) - bound_of(scene))
             || !has_many_free(scene)
-            || !self.is_stuck(scene)
         {
             return None;
         }
         self.plans.flag_opened(scene);
         self.lookout
-            .favour(&mut self.steps, scene, &self.plans.flags);
-        self.lookout.best_place(&mut self.steps, scene)
+            .best_place(&mut self.steps, scene, &self.plans.flags)
     }
 
-    // Whether the box is tight, and the steps in it took off little of what is left. The first box always counts as such.
-    fn is_stuck(&self, scene: &Scene<'_, '_>) -> bool {
-        let target = target(scene);
-        let bound = bound_of(scene);
-        let left = target - bound;
-        self.steps.is_smooth()
-            && NEAR * target < left
-            && self.is_tight(left, target)
-            && (scene.is_first || bound - self.entered < FAVOUR_GAIN * left)
+    // Whether so little is left that choices lie close to each other, and to look into them pays.
+    fn is_tight(&self, scene: &Scene<'_, '_>, left: f64) -> bool {
+        let is_due = self.steps.count_price() != 0 || self.boxes > PLAIN_BOXES;
+        is_due && 0.0 < left && left < TIGHT_PART * target(scene)
     }
 
-    // Whether the number of open sites has a price, and so little is left that choices lie close to each other.
-    fn is_tight(&self, left: f64, target: f64) -> bool {
-        self.steps.count_price() != 0 && left < TIGHT_PART * target
+    // Whether so little is left that it may pay to go on before the box is split.
+    fn may_close(&self, scene: &Scene<'_, '_>) -> bool {
+        is_near(&self.steps, scene) || self.is_tight(scene, left(&self.steps, scene))
     }
 
     /// What is known of the first box.
@@ -208,7 +204,6 @@ impl<'a> Stepping<'a> {
     fn start(&mut self, scene: &Scene<'_, '_>) -> Result<Move, NoMemory>
         requires { Suits scene.now self.old.steps self.old.plans.flags.items }
     {
-        self.entered = bound_of(scene);
         if self.regrowth.begins(scene.boxed.path())? {
             let stage = if scene.is_first {
                 Stage::Near
@@ -229,6 +224,7 @@ impl<'a> Stepping<'a> {
             .start_from(scene.order, scene.duals.values(), scene.duals.q());
         self.stage = Stage::Steps;
         self.rounds = 0;
+        self.boxes = self.boxes.saturating_add(1);
         if !scene.is_first {
             self.work = Work::Node;
             return Ok(Move::Nothing);
@@ -286,7 +282,7 @@ impl<'a> Stepping<'a> {
         match self.work {
             Work::Root => {
                 if self.rounds >= ROUNDS || self.course.is_over() {
-                    return Ok(self.end_rounds(scene));
+                    return self.end_rounds(scene);
                 }
                 self.stage = Stage::Plans(0);
                 self.round(scene)?;
@@ -300,7 +296,11 @@ impl<'a> Stepping<'a> {
                     return Ok(Move::Done);
                 }
                 self.stage = Stage::Round;
-                close_in(&mut self.steps, scene)?;
+                if self.is_tight(scene, left(&self.steps, scene)) && self.steps.is_plan_within() {
+                    fit_in(&mut self.steps, scene)?;
+                } else {
+                    close_in(&mut self.steps, scene)?;
+                }
             }
         }
         self.rounds = self.rounds.saturating_add(1);
@@ -332,8 +332,7 @@ impl<'a> Stepping<'a> {
     {
         let target = target(scene);
         if !is_near(&self.steps, scene) {
-            let left = left(&self.steps, scene);
-            let steps = if self.is_tight(left, target) {
+            let steps = if self.is_tight(scene, left(&self.steps, scene)) {
                 TIGHT_STEPS
             } else {
                 NODE_STEPS
@@ -401,7 +400,7 @@ impl<'a> Stepping<'a> {
     }
 
     // Sees what a round has left, and whether to go on.
-    fn review(&mut self, scene: &Scene<'_, '_>) -> Move
+    fn review(&mut self, scene: &Scene<'_, '_>) -> Result<Move, NoMemory>
         requires { Suits scene.now self.old.steps self.old.plans.flags.items }
     {
         self.stage = Stage::Steps;
@@ -410,54 +409,58 @@ impl<'a> Stepping<'a> {
             Work::Root => self.course.advance(self.before, left, target(scene)),
             Work::Leaf => {
                 if self.rounds < LEAF_ROUNDS && gains(self.before, left, LEAF_GAIN) {
-                    return Move::Nothing;
+                    return Ok(Move::Nothing);
                 }
                 if !self.regrowth.is_stepped() {
                     self.begin_leaf(Stage::Whole);
-                    return Move::Nothing;
+                    return Ok(Move::Nothing);
                 }
                 return self.review_node(scene);
             }
             Work::Node => return self.review_node(scene),
             Work::Closing => {
                 if left > 0.5 * self.before {
-                    return Move::Done;
+                    return Ok(Move::Done);
                 }
             }
         }
-        Move::Nothing
+        Ok(Move::Nothing)
     }
 
     // Behind the rounds in the first box: goes on where the bound may come up to the target.
-    fn end_rounds(&mut self, scene: &Scene<'_, '_>) -> Move
+    fn end_rounds(&mut self, scene: &Scene<'_, '_>) -> Result<Move, NoMemory>
         requires { Suits scene.now self.old.steps self.old.plans.flags.items }
     {
-        if is_near(&self.steps, scene) {
-            self.close(scene)
-        } else {
-            Move::Done
+        if !self.may_close(scene) {
+            return Ok(Move::Done);
         }
+        self.close(scene)
     }
 
     // Sees whether the box may close without a split.
-    fn review_node(&mut self, scene: &Scene<'_, '_>) -> Move
+    fn review_node(&mut self, scene: &Scene<'_, '_>) -> Result<Move, NoMemory>
         requires { Suits scene.now self.old.steps self.old.plans.flags.items }
     {
-        if !may_close(&self.steps, scene) {
-            return Move::Done;
+        if !self.may_close(scene) && !is_decided(self.steps.progress().shares()) {
+            return Ok(Move::Done);
         }
         self.close(scene)
     }
 
     // Goes on to exactly the target.
-    fn close(&mut self, scene: &Scene<'_, '_>) -> Move
+    fn close(&mut self, scene: &Scene<'_, '_>) -> Result<Move, NoMemory>
         requires { Suits scene.now self.old.steps self.old.plans.flags.items }
     {
         self.stage = Stage::Steps;
         self.work = Work::Closing;
         self.rounds = 0;
-        self.refer_to_plan(scene);
-        Move::Nothing
+        if !self.is_tight(scene, left(&self.steps, scene)) {
+            self.refer_to_plan(scene);
+            return Ok(Move::Nothing);
+        }
+        let found = self.plans.flag_within(scene, self.steps.progress())?;
+        self.steps.refer_to(scene.order, &self.plans.flags);
+        Ok(found)
     }
 
     fn is_starting(&self) -> bool {
@@ -503,11 +506,7 @@ fn is_near(steps: &Steps<'_>, scene: &Scene<'_, '_>) -> bool {
     left(steps, scene) < NEAR * target(scene)
 }
 
-// Whether it is worth while to go on before the box is split.
-fn may_close(steps: &Steps<'_>, scene: &Scene<'_, '_>) -> bool {
-    is_near(steps, scene) || is_decided(steps.progress().shares())
-}
-
+// Whether each site is taken by nearly all evaluations or by nearly none.
 fn is_decided(shares: &[f64]) -> bool {
     for i in 0..shares.len() {
         if DECIDED < shares[i] && shares[i] < 1.0 - DECIDED {
@@ -540,6 +539,17 @@ fn close_in(steps: &mut Steps<'_>, scene: &Scene<'_, '_>) -> Result<(), NoMemory
     };
     steps.polyak(scene.order, target, count);
     steps.project(scene.alloc, scene.order, target, CLOSING_SWEEPS)?;
+    steps.snap(scene.order, target);
+    Ok(())
+}
+
+// Sweeps and snaps.
+fn fit_in(steps: &mut Steps<'_>, scene: &Scene<'_, '_>) -> Result<(), NoMemory>
+    requires { HasLanes steps.old scene.now.order.now }
+    ensures { steps.new ≡ steps.old }
+{
+    let target = target(scene);
+    steps.project(scene.alloc, scene.order, target, TIGHT_SWEEPS)?;
     steps.snap(scene.order, target);
     Ok(())
 }

@@ -9,7 +9,7 @@ use Rattle.scenario_keeper.specs.Spelling.{IsName}
 abbrev pub name_row : List ℕ × ℕ → Row
 name_row entry = Text entry.0 ∷ Int (pos entry.1) ∷ []
 
--- these are the rows of all names, in the order of their bytes
+-- the rows are those of the names, which rise by their bytes and are all spelled as names
 pub record AreOfNames (names : List (List ℕ × ℕ)) (rows : List Row) : Type 0 where
   pub rows_are : rows ≡ map name_row names
   pub rise : NamesRise names

@@ -4,7 +4,7 @@ use Rattle.sqlite_value.specs.Order.{Row}
 use Rattle.sqlite_value.specs.declared.value.Value.TheVariants.{Int, Blob}
 use Rattle.scenario_keeper.specs.Scenario.{Scenario}
 
--- the row of an edit: its place and its line
+-- the row of an edit: its place as a number, and its line as bytes
 abbrev pub line_row : ℕ → List ℕ → Row
 line_row place line = Int (pos place) ∷ Blob line ∷ []
 
@@ -22,7 +22,7 @@ pub record AreOf (scenario : Scenario) (base : Row) (lines : List Row) : Type 0 
   pub base_is : base ≡ base_row scenario.base (length scenario.edits)
   pub lines_are : lines ≡ lines_from 1 scenario.edits
 
--- a name has this scenario, or none: what a store answers for its base, and for its edits
+-- what a store answers for a name that has this scenario, or none: rows of a base, and rows of edits
 abbrev pub Answers : Option Scenario → List Row → List Row → Type 0
 Answers None base lines = (base ≡ []) × (lines ≡ [])
 Answers (Some scenario) base lines = (row : Row) × (base ≡ row ∷ []) × AreOf scenario row lines

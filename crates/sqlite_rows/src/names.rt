@@ -11,7 +11,7 @@ use scenario_keeper::{NameList, as_name};
 use sqlite_value::row::Row;
 use std::alloc::Global;
 
-/// The names of all scenarios, in the order of their bytes, each with its number of edits.
+/// The names of the scenarios in these rows, in the order of their bytes, each with its number of edits.
 pub fn names_of(alloc: Global, rows: &[Row]) -> Result<NameList, RowsFault>
     ensures names { IfOk result (λ names. AreOfNames names rows.now) }
     ensures unlike { result ≡ Err RowsFault.Unlike → (names : List (List ℕ × ℕ)) → ¬ AreOfNames names rows.now }
