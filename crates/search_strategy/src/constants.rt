@@ -186,14 +186,19 @@ pub(crate) const LEAST_DOUBT: f64 = 0.01;
 /// steps are taken there.
 pub(crate) const TIGHT_PART: f64 = 0.002;
 
-pub(crate) const PLAIN_BOXES: u32 = 16;
+pub(crate) const PLAIN_BOXES: u32 = 50;
 
 pub(crate) const TIGHT_STEPS: u32 = 120;
 
-/// The most sweeps there.
+/// One is stuck where that took off less than such a part of what is left, and behind so many boxes each one is. Sweeps
+/// may go on there, so many at most.
+pub(crate) const STUCK_GAIN: f64 = 0.25;
+
+pub(crate) const MANY_BOXES: u32 = 200;
+
 pub(crate) const TIGHT_SWEEPS: u32 = 2000;
 
-/// Before such a box is split, steps go on with costs that favour the best plan's sites, by one of so many parts of what
+/// Before a stuck box is split, steps go on with costs that favour the best plan's sites, by one of so many parts of what
 /// is left, until shares change by less than so much in sum.
 pub(crate) const FAVOURED: f64 = 40.0;
 

@@ -9,9 +9,9 @@ ghost use Rattle.search_strategy.specs.Sizes.{Suits};
 use crate::beginning::{Beginning, Regrowth};
 use crate::constants::{
     CLOSING_ROUNDS, CLOSING_STEPS, CLOSING_SWEEPS, DECIDED, HINTS, LAST_PART, LAST_STEPS,
-    LEAF_GAIN, LEAF_ROUNDS, NEAR, NODE_FACTOR, NODE_MISSES, NODE_STEPS, PLAIN_BOXES,
-    RESUMED_FACTOR, ROUND_FACTOR, ROUND_MISSES, ROUND_STEPS, ROUND_SWEEPS, ROUNDS, TIGHT_PART,
-    TIGHT_STEPS, TIGHT_SWEEPS,
+    LEAF_GAIN, LEAF_ROUNDS, MANY_BOXES, NEAR, NODE_FACTOR, NODE_MISSES, NODE_STEPS, PLAIN_BOXES,
+    RESUMED_FACTOR, ROUND_FACTOR, ROUND_MISSES, ROUND_STEPS, ROUND_SWEEPS, ROUNDS, STUCK_GAIN,
+    TIGHT_PART, TIGHT_STEPS, TIGHT_SWEEPS,
 };
 use crate::course::Course;
 use crate::full::price_in;
@@ -84,6 +84,8 @@ pub(crate) struct Stepping<'a> {
     pub(crate) work: Work,
     course: Course,
     lookout: Lookout,
+    // The bound with which the box was entered, in millionths.
+    entered: f64,
     pub(crate) rounds: u32,
     // In how many boxes steps were begun.
     boxes: u32,
@@ -120,6 +122,7 @@ impl<'a> Stepping<'a> {
             work: Work::Root,
             course: Course::new(),
             lookout,
+            entered: 0.0,
             rounds: 0,
             boxes: 0,
             before: 0.0,
@@ -173,7 +176,7 @@ impl<'a> Stepping<'a> {
     {
         if !suits(&self.steps, &self.plans, scene)
             || !self.steps.is_smooth()
-            || !self.is_tight(scene, target(scene) - bound_of(scene))
+            || !self.is_stuck(scene, bound_of(scene))
             || !has_many_free(scene)
         {
             return None;
@@ -183,15 +186,24 @@ impl<'a> Stepping<'a> {
             .best_place(&mut self.steps, scene, &self.plans.flags)
     }
 
-    // Whether so little is left that choices lie close to each other, and to look into them pays.
+    // Whether so little is left that choices lie close to each other, and a number of sites is asked for, or many boxes
+    // didn't suffice.
     fn is_tight(&self, scene: &Scene<'_, '_>, left: f64) -> bool {
         let is_due = self.steps.count_price() != 0 || self.boxes > PLAIN_BOXES;
         is_due && 0.0 < left && left < TIGHT_PART * target(scene)
     }
 
-    // Whether so little is left that it may pay to go on before the box is split.
+    // Whether the box is tight, and what was done in it took off little of what is left. The first box always counts as
+    // such, and so does each one behind very many.
+    fn is_stuck(&self, scene: &Scene<'_, '_>, bound: f64) -> bool {
+        let left = target(scene) - bound;
+        let is_slow = bound - self.entered < STUCK_GAIN * left;
+        self.is_tight(scene, left) && (is_slow || scene.is_first || self.boxes > MANY_BOXES)
+    }
+
+    // Whether it may pay to go on before the box is split.
     fn may_close(&self, scene: &Scene<'_, '_>) -> bool {
-        is_near(&self.steps, scene) || self.is_tight(scene, left(&self.steps, scene))
+        is_near(&self.steps, scene) || self.is_stuck(scene, self.steps.progress().bound())
     }
 
     /// What is known of the first box.
@@ -204,6 +216,7 @@ impl<'a> Stepping<'a> {
     fn start(&mut self, scene: &Scene<'_, '_>) -> Result<Move, NoMemory>
         requires { Suits scene.now self.old.steps self.old.plans.flags.items }
     {
+        self.entered = bound_of(scene);
         if self.regrowth.begins(scene.boxed.path())? {
             let stage = if scene.is_first {
                 Stage::Near
@@ -548,9 +561,8 @@ fn fit_in(steps: &mut Steps<'_>, scene: &Scene<'_, '_>) -> Result<(), NoMemory>
     requires { HasLanes steps.old scene.now.order.now }
     ensures { steps.new ≡ steps.old }
 {
-    let target = target(scene);
-    steps.project(scene.alloc, scene.order, target, TIGHT_SWEEPS)?;
-    steps.snap(scene.order, target);
+    steps.project(scene.alloc, scene.order, target(scene), TIGHT_SWEEPS)?;
+    snap_near(steps, scene);
     Ok(())
 }
 
