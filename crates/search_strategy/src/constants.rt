@@ -190,8 +190,8 @@ pub(crate) const PLAIN_BOXES: u32 = 50;
 
 pub(crate) const TIGHT_STEPS: u32 = 120;
 
-/// One is stuck where that took off less than such a part of what is left, and behind so many boxes each one is. Sweeps
-/// may go on there, so many at most.
+/// One is stuck where that took off less than such a part of what is left, and each one where the first box was tight, or
+/// behind so many boxes. Sweeps may go on there, so many at most.
 pub(crate) const STUCK_GAIN: f64 = 0.25;
 
 pub(crate) const MANY_BOXES: u32 = 200;

@@ -87,8 +87,9 @@ pub(crate) struct Stepping<'a> {
     // The bound with which the box was entered, in millionths.
     entered: f64,
     pub(crate) rounds: u32,
-    // In how many boxes steps were begun.
+    // In how many boxes steps were begun, and whether the first box was tight behind its rounds.
     boxes: u32,
+    is_close: bool,
     // How much the best plan cost above the bound of the steps before the round.
     pub(crate) before: f64,
     // What is known of the box of the instance, and whether that came from a former search.
@@ -125,6 +126,7 @@ impl<'a> Stepping<'a> {
             entered: 0.0,
             rounds: 0,
             boxes: 0,
+            is_close: false,
             before: 0.0,
             first,
             is_known,
@@ -193,12 +195,12 @@ impl<'a> Stepping<'a> {
         is_due && 0.0 < left && left < TIGHT_PART * target(scene)
     }
 
-    // Whether the box is tight, and what was done in it took off little of what is left. The first box always counts as
-    // such, and so does each one behind very many.
+    // Whether the box is tight, and what was done in it took off little of what is left. Where the first box was tight,
+    // or very many boxes didn't suffice, each tight box counts as such.
     fn is_stuck(&self, scene: &Scene<'_, '_>, bound: f64) -> bool {
         let left = target(scene) - bound;
         let is_slow = bound - self.entered < STUCK_GAIN * left;
-        self.is_tight(scene, left) && (is_slow || scene.is_first || self.boxes > MANY_BOXES)
+        self.is_tight(scene, left) && (is_slow || self.is_close || self.boxes > MANY_BOXES)
     }
 
     // Whether it may pay to go on before the box is split.
@@ -444,6 +446,7 @@ impl<'a> Stepping<'a> {
     fn end_rounds(&mut self, scene: &Scene<'_, '_>) -> Result<Move, NoMemory>
         requires { Suits scene.now self.old.steps self.old.plans.flags.items }
     {
+        self.is_close = self.is_tight(scene, left(&self.steps, scene));
         if !self.may_close(scene) {
             return Ok(Move::Done);
         }
