@@ -4,6 +4,9 @@ The reading keeps all costs of pairs in one table, in which each vertex in turn 
 a few files, all their proper prefixes, all deletions of one byte and many random changes, and about random small networks.
 Of a network of a few vertices a certificate with a random plan is checked: the program has to refuse the plan, or to find
 what it costs along cheapest walks.
+
+Of two networks of 400 vertices, whose relaxations are a thousandth below the optimum, the program has to find an optimal
+plan within a few nodes, and to accept the certificate: that takes splits that are looked into, and duals that are fitted.
 """
 import itertools
 import random
@@ -13,6 +16,8 @@ from instances import BAD_INPUT, DONE, MAX_AMOUNT, MOST_SITES, Fault, Reader
 
 MOST_EDGES, MOST_PLANNED, PLANS, NETWORKS = 10**7, 8, 3, 1500
 NO = 3
+# Networks by vertices, medians and a seed, with the least cost and a budget.
+TIGHT = {(400, 40, 7): (4253, 60), (400, 40, 9): (4269, 120)}
 
 
 def read(text):
@@ -80,10 +85,36 @@ def some_network():
     return f"{n} {len(lines)} {random.randrange(1, n + 2)}\n{rows}".encode()
 
 
+def crossed(n, p, seed):
+    """A network in which edges join any vertices: a tree, and more until each vertex has some n / 25."""
+    drawn = random.Random(seed)
+    costs = {}
+    for b in range(2, n + 1):
+        cost = drawn.randrange(1, 101)
+        costs[drawn.randrange(1, b), b] = cost
+    while len(costs) < n * n // 50:
+        a, b = sorted(drawn.sample(range(1, n + 1), 2))
+        costs.setdefault((a, b), drawn.randrange(1, 101))
+    edges = "".join(f"{a} {b} {cost}\n" for (a, b), cost in costs.items())
+    return f"{n} {len(costs)} {p}\n{edges}".encode()
+
+
+def solved(program, network, cost, budget):
+    """Has the network solved within the budget, and its certificate checked."""
+    program.write("a", crossed(*network))
+    answer, status = program.ask("solve", "pmed", "a", "p", "c", f"budget={budget}")
+    claim = f"optimal {money(cost * MICRO)}"
+    if status != DONE or not answer.startswith(claim + " nodes "):
+        differs(network, (answer, status), (claim, DONE))
+    program.expect(f"yes {claim}\n", DONE, network, "check", "pmed", "a", "c")
+
+
 def check(program):
     files = [b"3 3 1\n1 2 5\n2 3 7\n1 2 4\n", b"2 2 1\n1 1 5\n1 2 3\n", b"3 2 1\n1 2 999999999.999999\n2 3 0.000001\n"]
     read_ones = sum(compare(program, text) for original in files for text in texts(original, b"0123. \n+-x", 300))
     read_ones += sum(compare(program, some_network()) for _ in range(NETWORKS))
+    for network, (cost, budget) in TIGHT.items():
+        solved(program, network, cost, budget)
     return f"networks: {program.asked} answers agree, on texts of which {read_ones} are networks"
 
 
