@@ -1,5 +1,5 @@
 //! Steps to exactly the cost of a plan, in boxes where the bound may come up to it.
-ghost use Rattle.std.specs.Prelude.{◌≡◌, ◌<◌, length, IfOk};
+ghost use Rattle.std.specs.Prelude.{◌≡◌, ◌<◌, length};
 ghost use Rattle.dual_steps.specs.Sizes.{Suits};
 
 use crate::Steps;
@@ -28,6 +28,9 @@ const PLENTY: f64 = 1000000000000000000.0;
 const FRACTIONS: [f64; 8] = [1.0, 2.0, 3.0, 4.0, 5.0, 6.0, 8.0, 12.0];
 
 const REACHES: [f64; 4] = [1.0, 4.0, 20.0, 100.0];
+
+// They are never looked for farther than such a part of the fraction away.
+const REACH_PARTS: f64 = 20.0;
 
 impl Steps<'_> {
     /// Refers to a plan by its open sites: where it is in the box, the steps to a cost keep each dual
@@ -70,9 +73,9 @@ impl Steps<'_> {
         }
     }
 
-    /// Mends the slacks of the sites one after the other, up to so many times, so that they fit the plan
-    /// that is referred to, and the price of the number of open sites along with the duals, where it has one. It does nothing where that isn't in the box, and fails only where memory
-    /// runs out.
+    /// Mends the slacks of the sites one after the other, up to so many times, so that they fit the plan that is referred
+    /// to. Where the number of open sites has a price, that moves along with the duals. It does nothing where the plan
+    /// isn't in the box, and fails only where memory runs out.
     pub fn project(
         &mut self,
         alloc: Global,
@@ -140,12 +143,16 @@ impl Steps<'_> {
         }
         set_aside(&mut self.customers);
         let left = target - self.progress.bound();
-        for reach in 0..REACHES.len() {
-            self.snap_within(order, target, unit, REACHES[reach] * (left + 2.0));
+        let mut tried = 0.0;
+        for k in 0..REACHES.len() {
+            let reach = REACHES[k] * (left + 2.0);
+            self.snap_within(order, target, unit, tried, reach);
+            tried = reach;
         }
     }
 
-    fn snap_within(&mut self, order: &LaneOrder, target: f64, unit: f64, reach: f64)
+    // Puts them onto each fraction within this reach, but for fractions whose most was `tried` before.
+    fn snap_within(&mut self, order: &LaneOrder, target: f64, unit: f64, tried: f64, reach: f64)
         requires { Suits self.old order.now }
         ensures { self.new ≡ self.old }
     {
@@ -154,9 +161,12 @@ impl Steps<'_> {
                 return;
             }
             let part = unit / FRACTIONS[fraction];
-            snap_to(&mut self.customers, part, reach.min(part / 20.0));
-            self.evaluate(order);
-            self.keep_better();
+            let most = part / REACH_PARTS;
+            if tried < most {
+                snap_to(&mut self.customers, part, reach.min(most));
+                self.evaluate(order);
+                self.keep_better();
+            }
         }
     }
 }

@@ -19,17 +19,17 @@ impl Steps<'_> {
         shift_costs(&mut self.sites, favoured, bonus);
     }
 
-    /// Keeps the best duals aside: `gain_ahead` begins with them.
+    /// Keeps the best duals aside: `bound_ahead` begins with them.
     pub fn set_aside(&mut self)
         ensures { self.new ≡ self.old }
     {
         set_aside(&mut self.customers);
     }
 
-    /// By how much so many smoothed steps raise the bound from the duals that were set aside, in millionths, in the part
-    /// of the box in which the site at this place is in this state. They begin with this part of a whole step, and nothing
-    /// that was smoothed before.
-    pub fn gain_ahead(
+    /// The bound that so many smoothed steps come to from the duals that were set aside, in millionths, in the part of
+    /// the box in which the site at this place is in this state; 0 where there is no such site. They begin with this part
+    /// of a whole step, and nothing that was smoothed before.
+    pub fn bound_ahead(
         &mut self,
         order: &LaneOrder,
         site: usize,
@@ -46,14 +46,12 @@ impl Steps<'_> {
             return 0.0;
         }
         recall_kept(&mut self.customers);
-        self.recall(order);
-        let before = self.progress.bound();
         let was = self.sites[site].state;
         self.sites[site].state = state;
         self.restart(factor);
         self.volume(order, target, steps, misses);
         self.sites[site].state = was;
-        self.progress.bound() - before
+        self.progress.bound()
     }
 }
 

@@ -1,5 +1,5 @@
 //! Which customers may pay which sites, and sweeps that mend one slack after the other.
-ghost use Rattle.std.specs.Prelude.{◌≡◌, ◌<◌, ◌≤◌, IfOk, length};
+ghost use Rattle.std.specs.Prelude.{◌≡◌, ◌<◌, IfOk, length};
 
 use crate::customer::Customer;
 use crate::paying::float_cost;
@@ -231,20 +231,37 @@ struct Mended {
     step: f64,
 }
 
+// A site's slack, and how many customers can change it.
+#[derive(Clone, Copy)]
+struct Standing {
+    slack: f64,
+    movers: f64,
+}
+
 // Mends a slack, where so many others move along with the customers.
 fn mend(payers: &[Payer], in_plan: bool, fixed: f64, others: f64, spots: &mut [Spot]) -> Mended
     ensures { length spots.new ≡ length spots.old }
 {
-    let slack = slack_of(payers, fixed, spots);
-    if in_plan && slack > 0.0 {
-        let step = slack / (others + raisable(payers, spots)).max(1.0);
-        raise(payers, step, spots);
-        return Mended { off: slack, step };
-    }
-    if !in_plan && slack < 0.0 {
-        let step = slack / (others + lowerable(payers, spots)).max(1.0);
-        lower(payers, -step, spots);
-        return Mended { off: -slack, step };
+    if in_plan {
+        let now = raisable(payers, fixed, spots);
+        if now.slack > 0.0 {
+            let step = now.slack / (others + now.movers).max(1.0);
+            raise(payers, step, spots);
+            return Mended {
+                off: now.slack,
+                step,
+            };
+        }
+    } else {
+        let now = lowerable(payers, fixed, spots);
+        if now.slack < 0.0 {
+            let step = now.slack / (others + now.movers).max(1.0);
+            lower(payers, -step, spots);
+            return Mended {
+                off: -now.slack,
+                step,
+            };
+        }
     }
     Mended {
         off: 0.0,
@@ -252,30 +269,22 @@ fn mend(payers: &[Payer], in_plan: bool, fixed: f64, others: f64, spots: &mut [S
     }
 }
 
-fn slack_of(payers: &[Payer], fixed: f64, spots: &[Spot]) -> f64 {
+// The slack, and how many customers can pay more.
+fn raisable(payers: &[Payer], fixed: f64, spots: &[Spot]) -> Standing {
     let mut slack = fixed;
-    for payer in payers {
-        if payer.customer < spots.len() {
-            let value = spots[payer.customer].value;
-            if payer.cost < value {
-                slack -= value - payer.cost;
-            }
-        }
-    }
-    slack
-}
-
-fn raisable(payers: &[Payer], spots: &[Spot]) -> f64 {
     let mut movers = 0.0;
     for payer in payers {
         if payer.customer < spots.len() {
             let one = spots[payer.customer];
-            if payer.cost <= one.value && one.value < one.high {
-                movers += 1.0;
+            if payer.cost <= one.value {
+                slack -= one.value - payer.cost;
+                if one.value < one.high {
+                    movers += 1.0;
+                }
             }
         }
     }
-    movers
+    Standing { slack, movers }
 }
 
 fn raise(payers: &[Payer], step: f64, spots: &mut [Spot])
@@ -291,17 +300,22 @@ fn raise(payers: &[Payer], step: f64, spots: &mut [Spot])
     }
 }
 
-fn lowerable(payers: &[Payer], spots: &[Spot]) -> f64 {
+// The slack, and how many customers can pay less.
+fn lowerable(payers: &[Payer], fixed: f64, spots: &[Spot]) -> Standing {
+    let mut slack = fixed;
     let mut movers = 0.0;
     for payer in payers {
         if payer.customer < spots.len() {
             let one = spots[payer.customer];
-            if payer.cost < one.value && one.low < one.value {
-                movers += 1.0;
+            if payer.cost < one.value {
+                slack -= one.value - payer.cost;
+                if one.low < one.value {
+                    movers += 1.0;
+                }
             }
         }
     }
-    movers
+    Standing { slack, movers }
 }
 
 fn lower(payers: &[Payer], step: f64, spots: &mut [Spot])

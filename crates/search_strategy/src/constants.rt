@@ -191,11 +191,12 @@ pub(crate) const PLAIN_BOXES: u32 = 50;
 pub(crate) const TIGHT_STEPS: u32 = 120;
 
 /// One is stuck where that took off less than such a part of what is left, and each one where the first box was tight, or
-/// behind so many boxes. Sweeps may go on there, so many at most.
+/// behind so many boxes.
 pub(crate) const STUCK_GAIN: f64 = 0.25;
 
 pub(crate) const MANY_BOXES: u32 = 200;
 
+/// The most sweeps there.
 pub(crate) const TIGHT_SWEEPS: u32 = 2000;
 
 /// Before a stuck box is split, steps go on with costs that favour the best plan's sites, by one of so many parts of what
@@ -211,8 +212,9 @@ pub(crate) const FAVOUR_MISSES: u32 = 20;
 
 pub(crate) const FAVOUR_ROUNDS: u32 = 24;
 
-/// The parts of the box are looked into, by so many steps, which begin with such a part of a whole one, for so many sites, in doubt at least such a part as much as the
-/// first, and each gain counts as at least such a part of what is left.
+/// The parts of the box are looked into by so many steps, which begin with such a part of a whole one. That is done for so
+/// many sites, in doubt at least such a part as much as the first, and each gain counts as at least such a part of what is
+/// left.
 pub(crate) const LOOK_STEPS: u32 = 30;
 
 pub(crate) const LOOK_FACTOR: f64 = 0.5;

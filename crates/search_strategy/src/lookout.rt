@@ -1,12 +1,12 @@
 //! The site on which to split where little is left: the box's two parts are looked into for some of the sites.
-ghost use Rattle.std.specs.Prelude.{◌≡◌, IfOk, length};
+ghost use Rattle.std.specs.Prelude.{◌≡◌, length};
 ghost use Rattle.dual_steps.specs.Sizes.{Suits as HasLanes};
 
 use crate::constants::{
-    FAVOUR_MISSES, FAVOUR_ROUNDS, FAVOUR_STEPS, FAVOURED, FEW, LEAST_DOUBT, LEAST_GAIN,
-    LOOK_FACTOR, LOOK_STEPS, LOOKED_AT, LOOKED_DOUBT, NODE_FACTOR, NODE_MISSES, SETTLED,
+    FAVOUR_MISSES, FAVOUR_ROUNDS, FAVOUR_STEPS, FAVOURED, LEAST_DOUBT, LEAST_GAIN, LOOK_FACTOR,
+    LOOK_STEPS, LOOKED_AT, LOOKED_DOUBT, NODE_FACTOR, NODE_MISSES, SETTLED,
 };
-use crate::splitting::{bound_of, is_free};
+use crate::splitting::{bound_of, doubt, most_doubtful};
 use crate::stepping::target;
 use dual_steps::Steps;
 use dual_value::SiteState;
@@ -48,25 +48,27 @@ impl Lookout {
         let left = target(scene) - bound_of(scene);
         let bonus = (left / FAVOURED).floor();
         steps.favour(flags, bonus);
+        let target = target(scene) - bonus * count(flags);
+        self.settle(steps, scene, target);
         let aim = Aim {
-            target: target(scene) - bonus * count(flags),
+            target,
+            bound: steps.progress().bound(),
             left,
         };
-        self.settle(steps, scene, aim);
         let best = self.doubtful_place(steps, scene, aim);
         steps.favour(flags, -bonus);
         best
     }
 
     // Takes rounds of steps until shares settle.
-    fn settle(&mut self, steps: &mut Steps<'_>, scene: &Scene<'_, '_>, aim: Aim)
+    fn settle(&mut self, steps: &mut Steps<'_>, scene: &Scene<'_, '_>, target: f64)
         requires { HasLanes steps.old scene.now.order.now }
         ensures { steps.new ≡ steps.old }
     {
         steps.set_factor(NODE_FACTOR);
         for _round in 0..FAVOUR_ROUNDS {
             copy_shares(steps.progress().shares(), &mut self.shares);
-            steps.volume(scene.order, aim.target, FAVOUR_STEPS, FAVOUR_MISSES);
+            steps.volume(scene.order, target, FAVOUR_STEPS, FAVOUR_MISSES);
             if distance(steps.progress().shares(), &self.shares) < SETTLED {
                 return;
             }
@@ -108,7 +110,7 @@ impl Lookout {
         for k in 0..count {
             if k < self.sites.len() {
                 let site = self.sites[k];
-                let worth = worth(steps, scene, aim, site);
+                let worth = worth(steps, scene, aim, site, greatest);
                 if worth > greatest {
                     greatest = worth;
                     best = Some(site);
@@ -119,19 +121,24 @@ impl Lookout {
     }
 }
 
-// What steps with favoured sites go to, and how much is left without.
+// What steps with favoured sites go to and have come to, and how much is left without.
 #[derive(Clone, Copy)]
 struct Aim {
     target: f64,
+    bound: f64,
     left: f64,
 }
 
-// The product of what the two parts of the box gain for this site, each as far as that counts.
-fn worth(steps: &mut Steps<'_>, scene: &Scene<'_, '_>, aim: Aim, site: usize) -> f64
+// The product of what the two parts of the box gain for this site, each as far as that counts; 0 where the first part
+// gains so little that it can't be more than the `least`.
+fn worth(steps: &mut Steps<'_>, scene: &Scene<'_, '_>, aim: Aim, site: usize, least: f64) -> f64
     requires { HasLanes steps.old scene.now.order.now }
     ensures { steps.new ≡ steps.old }
 {
     let closed = gain(steps, scene, aim, site, SiteState::Closed);
+    if closed * aim.left <= least {
+        return 0.0;
+    }
     let opened = gain(steps, scene, aim, site, SiteState::Opened);
     closed * opened
 }
@@ -146,7 +153,7 @@ fn gain(
     requires { HasLanes steps.old scene.now.order.now }
     ensures { steps.new ≡ steps.old }
 {
-    let gain = steps.gain_ahead(
+    let bound = steps.bound_ahead(
         scene.order,
         site,
         state,
@@ -155,7 +162,7 @@ fn gain(
         LOOK_STEPS,
         NODE_MISSES,
     );
-    gain.max(LEAST_GAIN * aim.left).min(aim.left)
+    (bound - aim.bound).max(LEAST_GAIN * aim.left).min(aim.left)
 }
 
 fn count(flags: &[bool]) -> f64 {
@@ -189,10 +196,6 @@ fn distance(now: &[f64], before: &[f64]) -> f64 {
     sum
 }
 
-fn doubt(share: f64) -> f64 {
-    share.min(1.0 - share)
-}
-
 // Fills in the free sites in doubt, the greatest doubt first, as far as there is room and as it is near enough to
 // the greatest. The answer is how many they are.
 fn doubtful_sites(scene: &Scene<'_, '_>, shares: &[f64], sites: &mut [usize]) -> usize
@@ -202,59 +205,15 @@ fn doubtful_sites(scene: &Scene<'_, '_>, shares: &[f64], sites: &mut [usize]) ->
     let mut least = LEAST_DOUBT;
     let mut last = None;
     for k in 0..sites.len() {
-        match next_site(scene, shares, last) {
-            None => return count,
-            Some(site) => {
-                if site >= shares.len() || doubt(shares[site]) <= least {
-                    return count;
-                }
-                if k == 0 {
-                    least = least.max(LOOKED_DOUBT * doubt(shares[site]));
-                }
-                sites[k] = site;
-                count = k + 1;
-                last = Some(site);
-            }
+        let Some(site) = most_doubtful(scene.boxed, shares, least, last) else {
+            return count;
+        };
+        if k == 0 && site < shares.len() {
+            least = least.max(LOOKED_DOUBT * doubt(shares[site]));
         }
+        sites[k] = site;
+        count = k + 1;
+        last = Some(site);
     }
     count
-}
-
-// The free site in most doubt of those behind the last one.
-fn next_site(scene: &Scene<'_, '_>, shares: &[f64], last: Option<usize>) -> Option<usize> {
-    let mut best = None;
-    let mut greatest = -1.0;
-    for site in 0..shares.len() {
-        let here = doubt(shares[site]);
-        if here > greatest && is_free(scene.boxed, site) && is_behind(shares, site, last) {
-            greatest = here;
-            best = Some(site);
-        }
-    }
-    best
-}
-
-fn is_behind(shares: &[f64], site: usize, last: Option<usize>) -> bool {
-    match last {
-        None => true,
-        Some(last) => {
-            if last >= shares.len() || site >= shares.len() {
-                return false;
-            }
-            let here = doubt(shares[site]);
-            let there = doubt(shares[last]);
-            here < there || (here == there && site > last)
-        }
-    }
-}
-
-/// Whether more than a few sites are free in the box.
-pub(crate) fn has_many_free(scene: &Scene<'_, '_>) -> bool {
-    let mut free = 0usize;
-    for site in 0..scene.boxed.instance().sites() {
-        if is_free(scene.boxed, site) {
-            free = free.saturating_add(1);
-        }
-    }
-    free > FEW
 }

@@ -6,7 +6,7 @@ ghost use Rattle.strategy_port.specs.Scene.{IsScene};
 
 use crate::tried::Tried;
 use dual_steps::Progress;
-use dual_value::{Path, PreparedBox, SiteState};
+use dual_value::{Path, PreparedBox};
 use instance_store::{Instance, NoMemory};
 use plan_meaning::Plan;
 use plan_search::{LocalSearch, improved_set, plan_around};
@@ -137,9 +137,9 @@ impl Plans {
         Ok(proposed(plan))
     }
 
-    /// Flags the sites of a plan in the box: of the best one, or where that isn't in the box, of one that is sought near
-    /// the shares, and is proposed. Without a plan some sites are flagged. It fails only where memory runs out.
-    pub(crate) fn flag_within(
+    /// Proposes a plan in the box that is sought near the shares, and flags its sites. Without a plan some sites are
+    /// flagged. It fails only where memory runs out.
+    pub(crate) fn seek_within(
         &mut self,
         scene: &Scene<'_, '_>,
         progress: &Progress,
@@ -147,10 +147,6 @@ impl Plans {
         requires { IsScene scene.now }
         ensures { length self.new.flags.items ≡ length self.old.flags.items }
     {
-        flag_opened(scene, &mut self.flags);
-        if is_within(scene, &self.flags) {
-            return Ok(Move::Nothing);
-        }
         flag_shared(progress.shares(), HALF, &mut self.flags);
         let plan = improved_set(
             scene.alloc,
@@ -233,20 +229,4 @@ fn flag_plan(inst: &Instance, plan: &Plan, flags: &mut [bool])
     for i in 0..flags.len() {
         flags[i] = i < inst.sites() && plan.opens(inst.site_id(i));
     }
-}
-
-// Whether the flagged sites suit what is settled in the box.
-fn is_within(scene: &Scene<'_, '_>, flags: &[bool]) -> bool {
-    for i in 0..scene.boxed.instance().sites() {
-        let is_flagged = i < flags.len() && flags[i];
-        let suits = match scene.boxed.state(i) {
-            SiteState::Free => true,
-            SiteState::Opened => is_flagged,
-            SiteState::Closed => !is_flagged,
-        };
-        if !suits {
-            return false;
-        }
-    }
-    true
 }

@@ -15,8 +15,8 @@ pub(crate) fn split_place(
     shares: &[f64],
 ) -> Option<usize> {
     match decided_place(scene, missing) {
-        None => doubtful_place(scene.boxed, shares),
-        Some(place) => Some(place),
+        None if has_many_free(scene.boxed) => most_doubtful(scene.boxed, shares, LEAST_DOUBT, None),
+        place => place,
     }
 }
 
@@ -42,21 +42,54 @@ fn decided_place(scene: &Scene<'_, '_>, missing: Option<i128>) -> Option<usize> 
     best
 }
 
-fn doubtful_place(boxed: &PreparedBox<'_>, shares: &[f64]) -> Option<usize> {
+/// The place of the free site in most doubt, of those in more than the `least`, and behind the `last` one.
+pub(crate) fn most_doubtful(
+    boxed: &PreparedBox<'_>,
+    shares: &[f64],
+    least: f64,
+    last: Option<usize>,
+) -> Option<usize> {
     let mut best = None;
-    let mut greatest = LEAST_DOUBT;
-    let mut free = 0usize;
+    let mut greatest = least;
     for site in 0..shares.len() {
-        if is_free(boxed, site) {
-            free = free.saturating_add(1);
-            let doubt = shares[site].min(1.0 - shares[site]);
-            if doubt > greatest {
-                greatest = doubt;
-                best = Some(site);
-            }
+        let here = doubt(shares[site]);
+        if here > greatest && is_free(boxed, site) && is_behind(shares, site, last) {
+            greatest = here;
+            best = Some(site);
         }
     }
-    if free <= FEW { None } else { best }
+    best
+}
+
+// Whether the site is in less doubt than the last one, or in as much and stands behind it.
+fn is_behind(shares: &[f64], site: usize, last: Option<usize>) -> bool {
+    match last {
+        None => true,
+        Some(last) => {
+            if last >= shares.len() || site >= shares.len() {
+                return false;
+            }
+            let here = doubt(shares[site]);
+            let there = doubt(shares[last]);
+            here < there || (here == there && site > last)
+        }
+    }
+}
+
+/// How far a share is from 0 and 1.
+pub(crate) fn doubt(share: f64) -> f64 {
+    share.min(1.0 - share)
+}
+
+/// Whether more than a few sites are free in the box.
+pub(crate) fn has_many_free(boxed: &PreparedBox<'_>) -> bool {
+    let mut free = 0usize;
+    for site in 0..boxed.instance().sites() {
+        if is_free(boxed, site) {
+            free = free.saturating_add(1);
+        }
+    }
+    free > FEW
 }
 
 /// Whether the site at this place is free, where there is one.

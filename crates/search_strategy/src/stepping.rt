@@ -1,7 +1,7 @@
 //! What is tried where no site has a capacity: steps in floats, whose duals are rounded, and plans around the sites
 //! that they take.
-ghost use Rattle.std.specs.Prelude.{◌≡◌, IfOk, IsTrue, OnOk, length};
-ghost use Rattle.dual_steps.specs.Sizes.{sizes_of, Suits as HasLanes};
+ghost use Rattle.std.specs.Prelude.{◌≡◌, IsTrue, length};
+ghost use Rattle.dual_steps.specs.Sizes.{Suits as HasLanes};
 ghost use Rattle.lane_order.specs.Order.{IsOrderOf};
 ghost use Rattle.strategy_port.specs.Scene.{IsScene};
 ghost use Rattle.search_strategy.specs.Sizes.{Suits};
@@ -16,9 +16,9 @@ use crate::constants::{
 use crate::course::Course;
 use crate::full::price_in;
 use crate::kept::FirstBox;
-use crate::lookout::{Lookout, has_many_free};
+use crate::lookout::Lookout;
 use crate::plans::{Hint, Plans};
-use crate::splitting::{bound_of, split_place};
+use crate::splitting::{bound_of, has_many_free, split_place};
 use crate::widening::widen;
 use dual_steps::Steps;
 use dual_value::Duals;
@@ -179,7 +179,7 @@ impl<'a> Stepping<'a> {
         if !suits(&self.steps, &self.plans, scene)
             || !self.steps.is_smooth()
             || !self.is_stuck(scene, bound_of(scene))
-            || !has_many_free(scene)
+            || !has_many_free(scene.boxed)
         {
             return None;
         }
@@ -361,13 +361,14 @@ impl<'a> Stepping<'a> {
         self.steps.snap(scene.order, target);
     }
 
-    // Lets the steps refer to the best plan.
-    fn refer_to_plan(&mut self, scene: &Scene<'_, '_>)
+    // Lets the steps refer to the best plan. Whether that is in the box.
+    fn refer_to_plan(&mut self, scene: &Scene<'_, '_>) -> bool
         requires { Suits scene.now self.old.steps self.old.plans.flags.items }
-        ensures { self.new.steps ≡ self.old.steps }
+        ensures steps { self.new.steps ≡ self.old.steps }
+        ensures flags { length self.new.plans.flags.items ≡ length self.old.plans.flags.items }
     {
         self.plans.flag_opened(scene);
-        self.steps.refer_to(scene.order, &self.plans.flags);
+        self.steps.refer_to(scene.order, &self.plans.flags)
     }
 
     // Seeks a plan by the hint at this place.
@@ -470,11 +471,11 @@ impl<'a> Stepping<'a> {
         self.stage = Stage::Steps;
         self.work = Work::Closing;
         self.rounds = 0;
-        if !self.is_tight(scene, left(&self.steps, scene)) {
-            self.refer_to_plan(scene);
+        let is_within = self.refer_to_plan(scene);
+        if is_within || !self.is_tight(scene, left(&self.steps, scene)) {
             return Ok(Move::Nothing);
         }
-        let found = self.plans.flag_within(scene, self.steps.progress())?;
+        let found = self.plans.seek_within(scene, self.steps.progress())?;
         self.steps.refer_to(scene.order, &self.plans.flags);
         Ok(found)
     }
