@@ -27,6 +27,3 @@ pub use node::NodeKind;
 pub use renewal::Renewal;
 pub use tree::Tree;
 pub use walk::{LeafWalk, pass_leaf};
-
-#[cfg(test)]
-mod tests;

@@ -21,6 +21,13 @@ pub(crate) const NO_PICK: Pick = Pick {
 // How many parts a millionth has, where sites are put in order.
 const PARTS: f64 = 1024.0;
 
+// More than any slack.
+const ENDLESS: f64 = 1.0e18;
+
+// The sites that are put in order are those whose slack is below that of the last one of the evaluation before and such
+// a part of it, where these are enough.
+const MARGIN_SHARE: f64 = 64.0;
+
 /// How many sites are open in a box at least and at most.
 #[derive(Clone, Copy)]
 pub(crate) struct Count {
@@ -46,11 +53,13 @@ struct Census {
 }
 
 /// Marks the taken sites as open: each opened one, and of the free ones those whose slack is below 0,
-/// the least first where the count has to be mended.
+/// the least first where the count has to be mended. The nearer `before` is to the multiplier of the count, the
+/// sooner it is found.
 pub(crate) fn choose(
     sites: &[Site],
     slacks: &[f64],
     count: Count,
+    before: f64,
     open: &mut [bool],
     picks: &mut [Pick],
 ) -> Taken
@@ -66,8 +75,12 @@ pub(crate) fn choose(
             extra: 0.0,
         };
     }
-    fill_picks(sites, slacks, picks);
-    let extra = order_picks(picks, wanted);
+    let limit = before.abs() / MARGIN_SHARE - before;
+    let mut picked = fill_picks(sites, slacks, limit, picks);
+    if picked < wanted {
+        picked = fill_picks(sites, slacks, ENDLESS, picks);
+    }
+    let extra = order_picks(picks, picked, wanted);
     take_opened(sites, open);
     take_picks(picks, wanted, open);
     Taken {
@@ -146,28 +159,35 @@ fn take_opened(sites: &[Site], open: &mut [bool])
     }
 }
 
-fn fill_picks(sites: &[Site], slacks: &[f64], picks: &mut [Pick])
+// Fills in the free sites whose slack is below a limit. The answer is how many they are.
+fn fill_picks(sites: &[Site], slacks: &[f64], limit: f64, picks: &mut [Pick]) -> usize
     requires { length sites.now ≡ length slacks.now }
 {
-    for i in 0..picks.len() {
-        if i < sites.len() {
-            picks[i] = Pick {
-                slack: part_slack(sites[i].state, slacks[i]),
+    let mut count = 0usize;
+    for i in 0..slacks.len() {
+        if count < picks.len() && slacks[i] < limit && is_free(sites[i]) {
+            picks[count] = Pick {
+                slack: saturating_f64_to_i64(slacks[i] * PARTS),
                 site: i,
             };
+            count += 1;
         }
     }
+    count
 }
 
-fn part_slack(state: SiteState, slack: f64) -> i64 {
-    match state {
-        SiteState::Free => saturating_f64_to_i64(slack * PARTS),
-        SiteState::Opened | SiteState::Closed => i64::MAX,
+fn is_free(site: Site) -> bool {
+    match site.state {
+        SiteState::Free => true,
+        SiteState::Opened | SiteState::Closed => false,
     }
 }
 
-// Puts the least picks first, so many of them. The answer is minus the slack of the last one.
-fn order_picks(picks: &mut [Pick], wanted: usize) -> f64 {
+// Of the first picks, so many, puts the least ones first. The answer is minus the slack of the last one.
+fn order_picks(picks: &mut [Pick], picked: usize, wanted: usize) -> f64 {
+    let Some(picks) = picks.get_mut(..picked) else {
+        return 0.0;
+    };
     if wanted == 0 || wanted > picks.len() {
         return 0.0;
     }

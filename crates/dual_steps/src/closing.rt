@@ -16,9 +16,9 @@ use std::alloc::Global;
 const LOOK: u32 = 10;
 
 // Sweeps go on where so many of them leave at most such a part of what slacks are off by.
-const REVIEW: u32 = 50;
+const REVIEW: u32 = 30;
 
-const MOST_OFF: f64 = 0.85;
+const MOST_OFF: f64 = 0.9;
 
 // More than slacks are off by, in millionths.
 const PLENTY: f64 = 1000000000000000000.0;
@@ -29,7 +29,7 @@ const FRACTIONS: [f64; 8] = [1.0, 2.0, 3.0, 4.0, 5.0, 6.0, 8.0, 12.0];
 
 const REACHES: [f64; 4] = [1.0, 4.0, 20.0, 100.0];
 
-// They are never looked for farther than such a part of the fraction away.
+// They are never looked for farther away than the fraction divided by this.
 const REACH_PARTS: f64 = 20.0;
 
 impl Steps<'_> {
@@ -90,7 +90,7 @@ impl Steps<'_> {
             return Ok(());
         }
         recall_within(&mut self.customers);
-        self.evaluate(order);
+        self.weigh(order);
         self.keep_better();
         let payers = Payers::of(alloc, order, &self.customers, self.sites.len())?;
         let mut spots = spots_of(alloc, &self.customers)?;
@@ -120,7 +120,7 @@ impl Steps<'_> {
             price = swept.extra;
             if turn % LOOK == LOOK - 1 {
                 take_spots(spots, &mut self.customers);
-                self.evaluate(order);
+                self.weigh(order);
                 self.keep_better();
             }
             if turn % REVIEW == REVIEW - 1 {
@@ -151,7 +151,7 @@ impl Steps<'_> {
         }
     }
 
-    // Puts them onto each fraction within this reach, but for fractions whose most was `tried` before.
+    // Puts them onto each fraction within this reach, but for those that were tried with the greatest reach before.
     fn snap_within(&mut self, order: &LaneOrder, target: f64, unit: f64, tried: f64, reach: f64)
         requires { Suits self.old order.now }
         ensures { self.new ≡ self.old }
@@ -164,7 +164,7 @@ impl Steps<'_> {
             let most = part / REACH_PARTS;
             if tried < most {
                 snap_to(&mut self.customers, part, reach.min(most));
-                self.evaluate(order);
+                self.weigh(order);
                 self.keep_better();
             }
         }

@@ -1,7 +1,7 @@
 //! Which customers may pay which sites, and sweeps that mend one slack after the other.
 ghost use Rattle.std.specs.Prelude.{◌≡◌, ◌<◌, IfOk, length};
 
-use crate::customer::Customer;
+use crate::customer::{Customer, between};
 use crate::paying::float_cost;
 use crate::site::Site;
 use dual_value::SiteState;
@@ -231,7 +231,7 @@ struct Mended {
     step: f64,
 }
 
-// A site's slack, and how many customers can change it.
+// A site's slack, and how many customers can mend it.
 #[derive(Clone, Copy)]
 struct Standing {
     slack: f64,
@@ -242,35 +242,27 @@ struct Standing {
 fn mend(payers: &[Payer], in_plan: bool, fixed: f64, others: f64, spots: &mut [Spot]) -> Mended
     ensures { length spots.new ≡ length spots.old }
 {
-    if in_plan {
-        let now = raisable(payers, fixed, spots);
-        if now.slack > 0.0 {
-            let step = now.slack / (others + now.movers).max(1.0);
-            raise(payers, step, spots);
-            return Mended {
-                off: now.slack,
-                step,
-            };
-        }
+    let now = standing(payers, in_plan, fixed, spots);
+    let is_off = if in_plan {
+        now.slack > 0.0
     } else {
-        let now = lowerable(payers, fixed, spots);
-        if now.slack < 0.0 {
-            let step = now.slack / (others + now.movers).max(1.0);
-            lower(payers, -step, spots);
-            return Mended {
-                off: -now.slack,
-                step,
-            };
-        }
+        now.slack < 0.0
+    };
+    if !is_off {
+        return Mended {
+            off: 0.0,
+            step: 0.0,
+        };
     }
+    let step = now.slack / (others + now.movers).max(1.0);
+    move_all(payers, in_plan, step, spots);
     Mended {
-        off: 0.0,
-        step: 0.0,
+        off: now.slack.abs(),
+        step,
     }
 }
 
-// The slack, and how many customers can pay more.
-fn raisable(payers: &[Payer], fixed: f64, spots: &[Spot]) -> Standing {
+fn standing(payers: &[Payer], in_plan: bool, fixed: f64, spots: &[Spot]) -> Standing {
     let mut slack = fixed;
     let mut movers = 0.0;
     for payer in payers {
@@ -278,7 +270,7 @@ fn raisable(payers: &[Payer], fixed: f64, spots: &[Spot]) -> Standing {
             let one = spots[payer.customer];
             if payer.cost <= one.value {
                 slack -= one.value - payer.cost;
-                if one.value < one.high {
+                if can_move(one, payer.cost, in_plan) {
                     movers += 1.0;
                 }
             }
@@ -287,46 +279,25 @@ fn raisable(payers: &[Payer], fixed: f64, spots: &[Spot]) -> Standing {
     Standing { slack, movers }
 }
 
-fn raise(payers: &[Payer], step: f64, spots: &mut [Spot])
+// Changes each dual that can mend the slack by a step, as far as its limits let it.
+fn move_all(payers: &[Payer], in_plan: bool, step: f64, spots: &mut [Spot])
     ensures { length spots.new ≡ length spots.old }
 {
     for payer in payers {
         if payer.customer < spots.len() {
             let one = spots[payer.customer];
-            if payer.cost <= one.value && one.value < one.high {
-                spots[payer.customer].value = (one.value + step).min(one.high);
+            if can_move(one, payer.cost, in_plan) {
+                spots[payer.customer].value = between(one.value + step, one.low, one.high);
             }
         }
     }
 }
 
-// The slack, and how many customers can pay less.
-fn lowerable(payers: &[Payer], fixed: f64, spots: &[Spot]) -> Standing {
-    let mut slack = fixed;
-    let mut movers = 0.0;
-    for payer in payers {
-        if payer.customer < spots.len() {
-            let one = spots[payer.customer];
-            if payer.cost < one.value {
-                slack -= one.value - payer.cost;
-                if one.low < one.value {
-                    movers += 1.0;
-                }
-            }
-        }
-    }
-    Standing { slack, movers }
-}
-
-fn lower(payers: &[Payer], step: f64, spots: &mut [Spot])
-    ensures { length spots.new ≡ length spots.old }
-{
-    for payer in payers {
-        if payer.customer < spots.len() {
-            let one = spots[payer.customer];
-            if payer.cost < one.value && one.low < one.value {
-                spots[payer.customer].value = (one.value - step).max(one.low);
-            }
-        }
+// Whether a customer whose lane costs so much can pay more, as for a site in the plan, or else less.
+fn can_move(one: Spot, cost: f64, in_plan: bool) -> bool {
+    if in_plan {
+        cost <= one.value && one.value < one.high
+    } else {
+        cost < one.value && one.low < one.value
     }
 }

@@ -118,7 +118,14 @@ impl Progress {
         requires slacks { length slacks.now ≡ self.old }
         ensures { self.new ≡ self.old }
     {
-        let chosen = choose(sites, slacks, self.count, &mut self.taken, &mut self.picks);
+        let chosen = choose(
+            sites,
+            slacks,
+            self.count,
+            self.extra,
+            &mut self.taken,
+            &mut self.picks,
+        );
         self.bound = sum + chosen.sum;
         self.extra = chosen.extra;
     }

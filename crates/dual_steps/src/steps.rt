@@ -104,7 +104,7 @@ impl<'a> Steps<'a> {
         ensures { self.new ≡ self.old }
     {
         take_values(values, scale, &mut self.customers);
-        self.evaluate(order);
+        self.weigh(order);
         self.keep_best();
     }
 
@@ -171,7 +171,7 @@ impl<'a> Steps<'a> {
     {
         fill_rounded(&self.customers, scale, &mut self.rounded);
         take_rounded(&self.rounded, scale, &mut self.customers);
-        self.evaluate(order);
+        self.weigh(order);
         self.rounded_extra = nearest_whole(self.progress.last_count_price(), scale);
     }
 
@@ -198,8 +198,23 @@ impl<'a> Steps<'a> {
         nearest_u64_to_f64(self.unit)
     }
 
-    // Finds slacks, taken sites, slopes and the bound at the duals.
+    // Finds slacks, taken sites, the bound and slopes at the duals.
     pub(crate) fn evaluate(&mut self, order: &LaneOrder)
+        requires { Suits self.old order.now }
+        ensures { self.new ≡ self.old }
+    {
+        self.weigh(order);
+        fill_slopes(
+            order,
+            &self.near,
+            self.inst,
+            self.progress.taken(),
+            &mut self.customers,
+        );
+    }
+
+    // The same without the slopes.
+    pub(crate) fn weigh(&mut self, order: &LaneOrder)
         requires { Suits self.old order.now }
         ensures { self.new ≡ self.old }
     {
@@ -212,13 +227,6 @@ impl<'a> Steps<'a> {
             &mut self.slacks,
         );
         self.progress.evaluate(sum, &self.sites, &self.slacks);
-        fill_slopes(
-            order,
-            &self.near,
-            self.inst,
-            self.progress.taken(),
-            &mut self.customers,
-        );
     }
 
     // Takes the duals as the best.

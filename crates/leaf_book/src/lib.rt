@@ -19,6 +19,3 @@ pub use change::Change;
 pub use instance_edits::{Edit, Inverse};
 pub use instance_store::{Instance, NoMemory};
 pub use places::LeafPlace;
-
-#[cfg(test)]
-mod tests;

@@ -12,6 +12,3 @@ mod whole;
 pub use fit::LeafFault;
 pub use leaf_bounds::LeafBounds;
 pub use small::has_small_knapsacks;
-
-#[cfg(test)]
-mod tests;

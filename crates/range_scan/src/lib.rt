@@ -12,6 +12,3 @@ pub use laws::{proved_between, proved_beyond};
 pub use range::Range;
 pub use refusal::RangeRefusal;
 pub use scanning::{fixed_range, lane_range};
-
-#[cfg(test)]
-mod tests;

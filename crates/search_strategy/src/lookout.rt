@@ -143,6 +143,8 @@ fn worth(steps: &mut Steps<'_>, scene: &Scene<'_, '_>, aim: Aim, site: usize, le
     closed * opened
 }
 
+// What steps gain in the part of the box in which the site is in this state, between the least that counts and all that
+// is left.
 fn gain(
     steps: &mut Steps<'_>,
     scene: &Scene<'_, '_>,

@@ -12,6 +12,3 @@ mod texts;
 mod writing;
 
 pub use keeper::SqliteKeeper;
-
-#[cfg(test)]
-mod tests;

@@ -16,6 +16,3 @@ pub use plain::PlainStrategy;
 pub use plan_meaning::Plan;
 pub use scene::Scene;
 pub use strategy::Strategy;
-
-#[cfg(test)]
-mod tests;

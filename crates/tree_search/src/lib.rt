@@ -28,6 +28,3 @@ pub use lane_order::LaneOrder;
 pub use laws::{answers_hold, searches_end};
 pub use plan_meaning::Plan;
 pub use strategy_port::{PlainStrategy, Strategy};
-
-#[cfg(test)]
-mod tests;

@@ -2,10 +2,10 @@ ghost use Rattle.std.specs.Prelude.{◌≡◌, IsTrue};
 ghost use Rattle.instance_store.specs.Small.{IsSmall};
 ghost use Rattle.location_terms.specs.Leaf.{LeafFits};
 
-use super::*;
 use dual_value::{Duals, Path};
 use example_instances::{customer, site, warehouses};
 use instance_store::{Instance, LaneRow, NoMemory};
+use leaf_bounds::{LeafBounds, has_small_knapsacks};
 use std::alloc::Global;
 use std::test::Fail;
 

@@ -5,7 +5,7 @@ use Rattle.branch_tree.specs.declared.entry.Entry.TheVariants.{End, Branch}
 use Rattle.branch_tree.specs.Begun.{Begun, grown}
 use Rattle.branch_tree.specs.Walk.{IsWhole}
 use Rattle.branch_tree.proofs.Whole.{whole-flat}
-use Rattle.branch_tree.proofs.tests.built.Goals as goal
+use Rattle.tree_rows.proofs.trees.built.Goals as goal
 
 pub finish-requires : goal.finish-requires
 finish-requires c =

@@ -1,5 +1,5 @@
-use super::*;
 use scenario_keeper::{Keeper, KeeperFault, NoMemory, Scenario};
+use sqlite_keeper::SqliteKeeper;
 use std::alloc::Global;
 use std::fs;
 use std::test::Fail;

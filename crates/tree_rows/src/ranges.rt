@@ -3,12 +3,12 @@ ghost use Rattle.location_terms.specs.Leaf.{LeafFits};
 ghost use Rattle.location_terms.specs.Tree.{StandsOn};
 ghost use Rattle.range_scan.specs.Range.{IsProvedOptimal};
 
-use super::*;
 use branch_tree::{Duals, Tree};
 use example_instances::two_sites;
 use instance_store::{CustId, Instance, NoMemory, SiteId};
 use leaf_bounds::LeafBounds;
 use plan_meaning::{Plan, judge};
+use range_scan::{Range, RangeRefusal, fixed_range, lane_range};
 use std::alloc::Global;
 use std::test::Fail;
 

@@ -1,8 +1,8 @@
-use crate::{LaneOrder, Move, NoMemory, PlainStrategy, Scene, Strategy};
 use dual_value::{Duals, Path, PreparedBox};
 use example_instances::ring;
 use std::alloc::Global;
 use std::test::Fail;
+use strategy_port::{LaneOrder, Move, NoMemory, PlainStrategy, Scene, Strategy};
 
 // Whether the plain strategy is done at once in the root's box of a ring, and wishes nothing.
 fn is_done(alloc: Global) -> Result<bool, NoMemory> {

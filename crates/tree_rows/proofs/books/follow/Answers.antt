@@ -2,7 +2,7 @@ use Rattle.std.proofs.Common.{sym, subst}
 use Rattle.location_terms.specs.Instance.{Instance}
 use Rattle.leaf_book.specs.Book.{IsBookOf}
 use Rattle.leaf_book.proofs.Differing.{undone_is, leads_to}
-use Rattle.leaf_book.proofs.tests.follow.Goals as goal
+use Rattle.tree_rows.proofs.books.follow.Goals as goal
 
 pub edited-requires-clause-book : goal.edited-requires-clause-book
 edited-requires-clause-book c =

@@ -1,6 +1,9 @@
-use crate::*;
 use instance_store::{LaneRow, SiteStatus};
 use location_terms::Claim;
+use session_lines::{
+    AnswerForm, Came, CustId, Edit, EditFault, NoMemory, Request, SessionFault, SiteId, came_text,
+    ok_text, refusal_text, request_of, solve_text,
+};
 use std::alloc::Global;
 
 // Whether each line is that of no command.

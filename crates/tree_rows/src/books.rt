@@ -8,12 +8,12 @@ ghost use Rattle.instance_edits.specs.Edits.{HasAmounts};
 ghost use Rattle.instance_edits.specs.Undo.{LeadsBack};
 ghost use Rattle.leaf_book.specs.Book.{IsBookOf};
 
-use super::*;
 use branch_tree::Split;
 use dual_value::Duals;
 use example_instances::{customer, site, two_sites};
 use instance_edits::{EditFault, apply, undo};
 use instance_store::{CustId, LaneRow, SiteId, SiteStatus};
+use leaf_book::{Change, Edit, Instance, Inverse, LeafBook, NoMemory, Tree};
 use leaf_bounds::LeafBounds;
 use std::alloc::Global;
 use std::test::Fail;

@@ -3,7 +3,9 @@ ghost use Rattle.location_terms.specs.Instance.{site_ids};
 ghost use Rattle.location_terms.specs.Leaf.{LeafFits};
 ghost use Rattle.location_terms.specs.Tree.{StandsOn, nodes_of};
 
-use super::*;
+use branch_tree::{
+    Builder, Decision, Duals, Growth, NodeKind, Path, Renewal, Split, Tree, pass_leaf,
+};
 use example_instances::ring;
 use instance_store::{Instance, NoMemory};
 use leaf_bounds::LeafBounds;

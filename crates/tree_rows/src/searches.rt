@@ -1,7 +1,6 @@
 ghost use Rattle.strategy_port.specs.Scene.{IsScene};
 ghost use Rattle.tree_search.specs.Answer.{IsWithin};
 
-use crate::{Answer, PlainStrategy, Tree, grow, max_nodes};
 use dual_value::Duals;
 use example_instances::{ring, road, warehouses};
 use instance_store::{Instance, NoMemory};
@@ -11,6 +10,7 @@ use plan_meaning::Plan;
 use std::alloc::Global;
 use std::test::Fail;
 use strategy_port::{Move, Scene, Strategy, Wish};
+use tree_search::{Answer, PlainStrategy, Tree, grow, max_nodes};
 
 // Proposes the one plan of two warehouses, each of which serves the other customer, and then these duals for whole
 // knapsacks, in each box.
