@@ -242,7 +242,7 @@ struct Standing {
 fn mend(payers: &[Payer], in_plan: bool, fixed: f64, others: f64, spots: &mut [Spot]) -> Mended
     ensures { length spots.new ≡ length spots.old }
 {
-    let now = standing(payers, in_plan, fixed, spots);
+    let now = slack_of(payers, in_plan, fixed, spots);
     let is_off = if in_plan {
         now.slack > 0.0
     } else {
@@ -262,7 +262,7 @@ fn mend(payers: &[Payer], in_plan: bool, fixed: f64, others: f64, spots: &mut [S
     }
 }
 
-fn standing(payers: &[Payer], in_plan: bool, fixed: f64, spots: &[Spot]) -> Standing {
+fn slack_of(payers: &[Payer], in_plan: bool, fixed: f64, spots: &[Spot]) -> Standing {
     let mut slack = fixed;
     let mut movers = 0.0;
     for payer in payers {
