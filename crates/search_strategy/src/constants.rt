@@ -188,6 +188,10 @@ pub(crate) const TIGHT_PART: f64 = 0.002;
 
 pub(crate) const PLAIN_BOXES: u32 = 50;
 
+/// Without such a number boxes are tight only where less than this part of the target was left behind the rounds in the
+/// first box: where the bound is far below, a few that come near it are no reason to take more steps in each.
+pub(crate) const NARROW_PART: f64 = 0.01;
+
 pub(crate) const TIGHT_STEPS: u32 = 120;
 
 /// One is stuck where that took off less than such a part of what is left, and each one where the first box was tight, or

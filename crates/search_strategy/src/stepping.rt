@@ -9,9 +9,9 @@ ghost use Rattle.search_strategy.specs.Sizes.{Suits};
 use crate::beginning::{Beginning, Regrowth};
 use crate::constants::{
     CLOSING_ROUNDS, CLOSING_STEPS, CLOSING_SWEEPS, DECIDED, HINTS, LAST_PART, LAST_STEPS,
-    LEAF_GAIN, LEAF_ROUNDS, MANY_BOXES, NEAR, NODE_FACTOR, NODE_MISSES, NODE_STEPS, PLAIN_BOXES,
-    RESUMED_FACTOR, ROUND_FACTOR, ROUND_MISSES, ROUND_STEPS, ROUND_SWEEPS, ROUNDS, STUCK_GAIN,
-    TIGHT_PART, TIGHT_STEPS, TIGHT_SWEEPS,
+    LEAF_GAIN, LEAF_ROUNDS, MANY_BOXES, NARROW_PART, NEAR, NODE_FACTOR, NODE_MISSES, NODE_STEPS,
+    PLAIN_BOXES, RESUMED_FACTOR, ROUND_FACTOR, ROUND_MISSES, ROUND_STEPS, ROUND_SWEEPS, ROUNDS,
+    STUCK_GAIN, TIGHT_PART, TIGHT_STEPS, TIGHT_SWEEPS,
 };
 use crate::course::Course;
 use crate::full::price_in;
@@ -90,6 +90,8 @@ pub(crate) struct Stepping<'a> {
     // In how many boxes steps were begun, and whether the first box was tight behind its rounds.
     boxes: u32,
     is_close: bool,
+    // Whether little was left there: without a number of sites no box is tight else.
+    is_narrow: bool,
     // How much the best plan cost above the bound of the steps before the round.
     pub(crate) before: f64,
     // What is known of the box of the instance, and whether that came from a former search.
@@ -127,6 +129,7 @@ impl<'a> Stepping<'a> {
             rounds: 0,
             boxes: 0,
             is_close: false,
+            is_narrow: false,
             before: 0.0,
             first,
             is_known,
@@ -189,9 +192,10 @@ impl<'a> Stepping<'a> {
     }
 
     // Whether so little is left that choices lie close to each other, and a number of sites is asked for, or many boxes
-    // didn't suffice.
+    // didn't suffice although little was left behind the rounds in the first.
     fn is_tight(&self, scene: &Scene<'_, '_>, left: f64) -> bool {
-        let is_due = self.steps.count_price() != 0 || self.boxes > PLAIN_BOXES;
+        let is_long = self.is_narrow && self.boxes > PLAIN_BOXES;
+        let is_due = self.steps.count_price() != 0 || is_long;
         is_due && 0.0 < left && left < TIGHT_PART * target(scene)
     }
 
@@ -447,7 +451,9 @@ impl<'a> Stepping<'a> {
     fn end_rounds(&mut self, scene: &Scene<'_, '_>) -> Result<Move, NoMemory>
         requires { Suits scene.now self.old.steps self.old.plans.flags.items }
     {
-        self.is_close = self.is_tight(scene, left(&self.steps, scene));
+        let left = left(&self.steps, scene);
+        self.is_close = self.is_tight(scene, left);
+        self.is_narrow = left < NARROW_PART * target(scene);
         if !self.may_close(scene) {
             return Ok(Move::Done);
         }
