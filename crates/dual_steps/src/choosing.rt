@@ -1,6 +1,7 @@
 //! The sites that are taken at some slacks, as many as the count of open sites lets.
 ghost use Rattle.std.specs.Prelude.{◌≡◌, ◌<◌, length};
 
+use crate::paying::ENDLESS;
 use crate::site::Site;
 use dual_value::SiteState;
 use std::num::{nearest_i64_to_f64, saturating_f64_to_i64};
@@ -20,9 +21,6 @@ pub(crate) const NO_PICK: Pick = Pick {
 
 // How many parts a millionth has, where sites are put in order.
 const PARTS: f64 = 1024.0;
-
-// More than any slack.
-const ENDLESS: f64 = 1.0e18;
 
 // The sites that are put in order are those whose slack is below that of the last one of the evaluation before and such
 // a part of it, where these are enough.
@@ -82,7 +80,7 @@ pub(crate) fn choose(
     }
     let extra = order_picks(picks, picked, wanted);
     take_opened(sites, open);
-    take_picks(picks, wanted, open);
+    take_picks(picks, wanted.min(picked), open);
     Taken {
         sum: open_sum(slacks, open),
         extra,
@@ -165,7 +163,7 @@ fn fill_picks(sites: &[Site], slacks: &[f64], limit: f64, picks: &mut [Pick]) ->
 {
     let mut count = 0usize;
     for i in 0..slacks.len() {
-        if count < picks.len() && slacks[i] < limit && is_free(sites[i]) {
+        if count < picks.len() && slacks[i] < limit && sites[i].is_free() {
             picks[count] = Pick {
                 slack: saturating_f64_to_i64(slacks[i] * PARTS),
                 site: i,
@@ -174,13 +172,6 @@ fn fill_picks(sites: &[Site], slacks: &[f64], limit: f64, picks: &mut [Pick]) ->
         }
     }
     count
-}
-
-fn is_free(site: Site) -> bool {
-    match site.state {
-        SiteState::Free => true,
-        SiteState::Opened | SiteState::Closed => false,
-    }
 }
 
 // Of the first picks, so many, puts the least ones first. The answer is minus the slack of the last one.

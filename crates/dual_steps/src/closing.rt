@@ -5,7 +5,7 @@ ghost use Rattle.dual_steps.specs.Sizes.{Suits};
 use crate::Steps;
 use crate::customer::{FLAT, recall_within, step_ahead, turn};
 use crate::payers::{Payers, Spot, spots_of, sweep, take_spots};
-use crate::paying::{fill_limits, widen_limits};
+use crate::paying::{ENDLESS, fill_limits, widen_limits};
 use crate::site::is_within;
 use crate::snapping::{set_aside, snap_to};
 use instance_store::NoMemory;
@@ -19,9 +19,6 @@ const LOOK: u32 = 10;
 const REVIEW: u32 = 30;
 
 const MOST_OFF: f64 = 0.9;
-
-// More than slacks are off by, in millionths.
-const PLENTY: f64 = 1000000000000000000.0;
 
 // Fractions of the costs' unit on which duals of a vertex stand, and how far from them they are looked
 // for, in parts of what is left.
@@ -111,7 +108,7 @@ impl Steps<'_> {
     {
         let mut price = self.progress.last_count_price();
         let moves = price != 0.0;
-        let mut mark = PLENTY;
+        let mut mark = ENDLESS;
         for turn in 0..sweeps {
             if self.progress.reaches(target) {
                 return;

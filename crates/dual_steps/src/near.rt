@@ -2,7 +2,7 @@
 ghost use Rattle.std.specs.Prelude.{◌≡◌, ◌<◌, length};
 
 use crate::customer::Customer;
-use crate::paying::float_cost;
+use crate::paying::{ENDLESS, float_cost};
 use instance_store::NoMemory;
 use lane_order::{LaneOrder, PlacedLane};
 use std::alloc::Global;
@@ -23,9 +23,6 @@ const SPARE: usize = 4;
 const MISSING_SHARE: usize = 8;
 
 const REVIEW: usize = 16;
-
-// More than any dual.
-const ENDLESS: f64 = 1.0e18;
 
 /// A lane to a customer: what it costs, in millionths, and the place of its site.
 #[derive(Clone, Copy)]

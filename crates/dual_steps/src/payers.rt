@@ -4,7 +4,6 @@ ghost use Rattle.std.specs.Prelude.{◌≡◌, ◌<◌, IfOk, length};
 use crate::customer::{Customer, between};
 use crate::paying::float_cost;
 use crate::site::Site;
-use dual_value::SiteState;
 use instance_store::NoMemory;
 use lane_order::LaneOrder;
 use std::alloc::Global;
@@ -209,7 +208,7 @@ pub(crate) fn sweep(
     let others = if moves { 1.0 } else { 0.0 };
     let mut swept = Swept { extra, off: 0.0 };
     for i in 0..sites.len() {
-        if matches!(sites[i].state, SiteState::Free) {
+        if sites[i].is_free() {
             let mended = mend(
                 payers.of_site(i),
                 plan[i],
@@ -262,6 +261,7 @@ fn mend(payers: &[Payer], in_plan: bool, fixed: f64, others: f64, spots: &mut [S
     }
 }
 
+// The slack of a site that costs so much, where these may pay it.
 fn slack_of(payers: &[Payer], in_plan: bool, fixed: f64, spots: &[Spot]) -> Standing {
     let mut slack = fixed;
     let mut movers = 0.0;

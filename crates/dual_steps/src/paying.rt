@@ -10,6 +10,9 @@ use lane_order::LaneOrder;
 // More than any amount, and up to this each whole number is a float: its cast takes no rounding.
 const MANY: u64 = 0x20_0000_0000_0000;
 
+/// More than any dual or slack, and than slacks are off by in sum, in millionths.
+pub(crate) const ENDLESS: f64 = 1.0e18;
+
 /// What a lane costs, as a float.
 #[inline(always)]
 pub(crate) fn float_cost(cost: u64) -> f64 {

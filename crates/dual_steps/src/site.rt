@@ -10,6 +10,16 @@ pub struct Site {
     pub fixed: f64,
 }
 
+impl Site {
+    /// Whether nothing is settled of it.
+    pub(crate) fn is_free(self) -> bool {
+        match self.state {
+            SiteState::Free => true,
+            SiteState::Opened | SiteState::Closed => false,
+        }
+    }
+}
+
 /// Takes what the box settles of the sites.
 pub fn take_states(boxed: &PreparedBox<'_>, sites: &mut [Site])
     requires { length sites.old ≡ length boxed.now.instance.sites }

@@ -1,6 +1,6 @@
-ghost use Rattle.std.specs.Prelude.{◌≡◌, ◌≤◌, Contains, IfOk, OnOk};
+//! Books of slacks, which follow edits and their being taken back.
+ghost use Rattle.std.specs.Prelude.{◌≡◌, ◌≤◌, IfOk, OnOk};
 ghost use Rattle.location_terms.specs.Instance.{site_ids, customer_ids};
-ghost use Rattle.location_terms.specs.Leaf.{LeafFits};
 ghost use Rattle.location_terms.specs.Tree.{nodes_of};
 ghost use Rattle.location_terms.specs.declared.limits.TheConstants.{MAX_AMOUNT};
 ghost use Rattle.instance_store.specs.Small.{IsSmall};
@@ -8,35 +8,14 @@ ghost use Rattle.instance_edits.specs.Edits.{HasAmounts};
 ghost use Rattle.instance_edits.specs.Undo.{LeadsBack};
 ghost use Rattle.leaf_book.specs.Book.{IsBookOf};
 
+use crate::given::{cust_of, duals, site_of};
 use branch_tree::Split;
-use dual_value::Duals;
 use example_instances::{customer, site, two_sites};
 use instance_edits::{EditFault, apply, undo};
 use instance_store::{CustId, LaneRow, SiteId, SiteStatus};
 use leaf_book::{Change, Edit, Instance, Inverse, LeafBook, NoMemory, Tree};
-use leaf_bounds::LeafBounds;
 use std::alloc::Global;
 use std::test::Fail;
-
-// Duals of scale 1 with these numbers, which fit.
-fn duals(
-    alloc: Global,
-    inst: &Instance,
-    nu: i128,
-    values: &[i128],
-    prices: &[u64],
-) -> Result<Duals, Fail>
-    ensures { IfOk result (LeafFits inst.now) }
-{
-    let values = Vec::from_slice(alloc, values)?;
-    let prices = Vec::from_slice(alloc, prices)?;
-    let duals = Duals::from_lists(1, nu, values, prices);
-    if inst.custs() != duals.customers() || inst.sites() != duals.sites() {
-        return Err(Fail::new("an instance of another size"));
-    }
-    LeafBounds::of(alloc, inst).fits(&duals)?;
-    Ok(duals)
-}
 
 // A tree of one leaf for three customers with this dual each, at a price of 1 unit for each site.
 fn leaf(alloc: Global, inst: &Instance, value: i128) -> Result<Tree, Fail>
@@ -47,26 +26,6 @@ fn leaf(alloc: Global, inst: &Instance, value: i128) -> Result<Tree, Fail>
     let duals = duals(alloc, inst, 1_000_000, &[value; 3], &[0; 2])?;
     let tree = Tree::leaf(alloc, inst, duals)?;
     Ok(tree)
-}
-
-fn site_of(inst: &Instance, id: u32) -> Result<SiteId, Fail>
-    ensures { IfOk result (Contains (site_ids inst.now)) }
-{
-    let site = SiteId::new(id);
-    if inst.site_at(site).is_none() {
-        return Err(Fail::new("no such site"));
-    }
-    Ok(site)
-}
-
-fn cust_of(inst: &Instance, id: u32) -> Result<CustId, Fail>
-    ensures { IfOk result (Contains (customer_ids inst.now)) }
-{
-    let cust = CustId::new(id);
-    if inst.cust_at(cust).is_none() {
-        return Err(Fail::new("no such customer"));
-    }
-    Ok(cust)
 }
 
 // The second site is closed, or opened and then the first site's lane to the last customer unused or used.

@@ -1,3 +1,4 @@
+//! Bounds of leaves, by prices and by whole knapsacks.
 ghost use Rattle.std.specs.Prelude.{◌≡◌, IsTrue};
 ghost use Rattle.instance_store.specs.Small.{IsSmall};
 ghost use Rattle.location_terms.specs.Leaf.{LeafFits};

@@ -7,6 +7,8 @@ mod books;
 #[cfg(test)]
 mod bounds;
 #[cfg(test)]
+mod given;
+#[cfg(test)]
 mod moves;
 #[cfg(test)]
 mod ranges;

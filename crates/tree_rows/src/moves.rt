@@ -1,3 +1,4 @@
+//! What a strategy is told, and what the plain one answers.
 use dual_value::{Duals, Path, PreparedBox};
 use example_instances::ring;
 use std::alloc::Global;

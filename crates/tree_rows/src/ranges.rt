@@ -1,12 +1,12 @@
+//! Ranges of costs, and what is refused.
 ghost use Rattle.std.specs.Prelude.{IfOk, IsTrue};
-ghost use Rattle.location_terms.specs.Leaf.{LeafFits};
 ghost use Rattle.location_terms.specs.Tree.{StandsOn};
 ghost use Rattle.range_scan.specs.Range.{IsProvedOptimal};
 
-use branch_tree::{Duals, Tree};
+use crate::given::duals;
+use branch_tree::Tree;
 use example_instances::two_sites;
 use instance_store::{CustId, Instance, NoMemory, SiteId};
-use leaf_bounds::LeafBounds;
 use plan_meaning::{Plan, judge};
 use range_scan::{Range, RangeRefusal, fixed_range, lane_range};
 use std::alloc::Global;
@@ -14,25 +14,12 @@ use std::test::Fail;
 
 const MAX: u64 = 999_999_999_999_999;
 
-// The duals by which the first site alone is best: of scale 1, without other prices.
-fn duals(alloc: Global, inst: &Instance) -> Result<Duals, Fail>
-    ensures { IfOk result (LeafFits inst.now) }
-{
-    let values = Vec::from_array(alloc, [11_000_000, 2_000_000, 9_000_000])?;
-    let prices = Vec::from_array(alloc, [0; 2])?;
-    let duals = Duals::from_lists(1, 0, values, prices);
-    if inst.custs() != duals.customers() || inst.sites() != duals.sites() {
-        return Err(Fail::new("an instance of another size"));
-    }
-    LeafBounds::of(alloc, inst).fits(&duals)?;
-    Ok(duals)
-}
-
-// The tree of one leaf with these duals.
+// The tree of one leaf, with duals by which the first site alone is best.
 fn tree(alloc: Global, inst: &Instance) -> Result<Tree, Fail>
     ensures { IfOk result (λ t. StandsOn t inst.now) }
 {
-    let leaf = duals(alloc, inst)?;
+    let values = [11_000_000, 2_000_000, 9_000_000];
+    let leaf = duals(alloc, inst, 0, &values, &[0; 2])?;
     let tree = Tree::leaf(alloc, inst, leaf)?;
     Ok(tree)
 }

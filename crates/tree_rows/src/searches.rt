@@ -1,3 +1,4 @@
+//! Searches within a budget, by the plain strategy and by one that proposes duals for whole knapsacks.
 ghost use Rattle.strategy_port.specs.Scene.{IsScene};
 ghost use Rattle.tree_search.specs.Answer.{IsWithin};
 

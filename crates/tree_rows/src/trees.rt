@@ -1,8 +1,10 @@
+//! Trees, made whole, node by node and as they grow, and walks over their leaves.
 ghost use Rattle.std.specs.Prelude.{◌≡◌, ◌<◌, Contains, IfOk};
 ghost use Rattle.location_terms.specs.Instance.{site_ids};
 ghost use Rattle.location_terms.specs.Leaf.{LeafFits};
 ghost use Rattle.location_terms.specs.Tree.{StandsOn, nodes_of};
 
+use crate::given::{duals, site_of};
 use branch_tree::{
     Builder, Decision, Duals, Growth, NodeKind, Path, Renewal, Split, Tree, pass_leaf,
 };
@@ -16,31 +18,6 @@ use std::test::Fail;
 const CLOSED: [i128; 3] = [2_000_000, 2_000_000, 0];
 
 const OPENED: [i128; 3] = [0, 0, 2_000_000];
-
-// Duals of scale 1, with these values of the customers and no other price, which fit.
-fn duals(alloc: Global, inst: &Instance, v: [i128; 3]) -> Result<Duals, Fail>
-    ensures { IfOk result (LeafFits inst.now) }
-{
-    let values = Vec::from_array(alloc, v)?;
-    let prices = Vec::from_array(alloc, [0; 3])?;
-    let duals = Duals::from_lists(1, 0, values, prices);
-    if inst.custs() != duals.customers() || inst.sites() != duals.sites() {
-        return Err(Fail::new("an instance of another size"));
-    }
-    LeafBounds::of(alloc, inst).fits(&duals)?;
-    Ok(duals)
-}
-
-// The first site.
-fn first_site(inst: &Instance) -> Result<SiteId, Fail>
-    ensures { IfOk result (Contains (site_ids inst.now)) }
-{
-    let site = SiteId::new(1);
-    if inst.site_at(site).is_none() {
-        return Err(Fail::new("no such site"));
-    }
-    Ok(site)
-}
 
 // A split whose leaves have these duals.
 fn forked(
@@ -150,9 +127,9 @@ fn shows_4(tree: &Tree, inst: &Instance, bounds: &mut LeafBounds<'_>) -> Result<
 }
 
 fn shows_the_example(alloc: Global, inst: &Instance) -> Result<bool, Fail> {
-    let site = first_site(inst)?;
-    let closed = duals(alloc, inst, CLOSED)?;
-    let opened = duals(alloc, inst, OPENED)?;
+    let site = site_of(inst, 1)?;
+    let closed = duals(alloc, inst, 0, &CLOSED, &[0; 3])?;
+    let opened = duals(alloc, inst, 0, &OPENED, &[0; 3])?;
     let tree = built(alloc, inst, site, closed, opened)?;
     Ok(
         is_split(&tree)
@@ -255,9 +232,9 @@ fn renews(
 }
 
 fn renews_the_example(alloc: Global, inst: &Instance) -> Result<bool, Fail> {
-    let site = first_site(inst)?;
-    let closed = duals(alloc, inst, CLOSED)?;
-    let opened = duals(alloc, inst, OPENED)?;
+    let site = site_of(inst, 1)?;
+    let closed = duals(alloc, inst, 0, &CLOSED, &[0; 3])?;
+    let opened = duals(alloc, inst, 0, &OPENED, &[0; 3])?;
     let tree = forked(alloc, inst, site, closed.copied()?, opened.copied()?)?;
     Ok(renews(alloc, inst, site, tree, closed, opened)?)
 }
