@@ -188,8 +188,8 @@ pub(crate) const TIGHT_PART: f64 = 0.002;
 
 pub(crate) const PLAIN_BOXES: u32 = 50;
 
-/// Without such a number boxes are tight only where less than this part of the target was left behind the rounds in the
-/// first box: where the bound is far below, a few that come near it are no reason to take more steps in each.
+/// Without such a number boxes are tight only where steps in the box of the instance left less than this part of the
+/// target: where the bound is far below it, a few boxes that come near are no reason to take more steps in each.
 pub(crate) const NARROW_PART: f64 = 0.01;
 
 pub(crate) const TIGHT_STEPS: u32 = 120;

@@ -90,8 +90,9 @@ pub(crate) struct Stepping<'a> {
     // In how many boxes steps were begun, and whether the first box was tight behind its rounds.
     boxes: u32,
     is_close: bool,
-    // Whether little was left there: without a number of sites no box is tight else.
-    is_narrow: bool,
+    // Whether little was left in the box of the instance: without a number of sites no box is tight else. In a carried
+    // tree it is taken so until steps were taken there.
+    pub(crate) is_narrow: bool,
     // How much the best plan cost above the bound of the steps before the round.
     pub(crate) before: f64,
     // What is known of the box of the instance, and whether that came from a former search.
@@ -129,7 +130,7 @@ impl<'a> Stepping<'a> {
             rounds: 0,
             boxes: 0,
             is_close: false,
-            is_narrow: false,
+            is_narrow: regrowth.is_carried(),
             before: 0.0,
             first,
             is_known,
@@ -192,7 +193,7 @@ impl<'a> Stepping<'a> {
     }
 
     // Whether so little is left that choices lie close to each other, and a number of sites is asked for, or many boxes
-    // didn't suffice although little was left behind the rounds in the first.
+    // didn't suffice although little was left in that of the instance.
     fn is_tight(&self, scene: &Scene<'_, '_>, left: f64) -> bool {
         let is_long = self.is_narrow && self.boxes > PLAIN_BOXES;
         let is_due = self.steps.count_price() != 0 || is_long;
@@ -453,7 +454,7 @@ impl<'a> Stepping<'a> {
     {
         let left = left(&self.steps, scene);
         self.is_close = self.is_tight(scene, left);
-        self.is_narrow = left < NARROW_PART * target(scene);
+        self.is_narrow = leaves_little(left, scene);
         if !self.may_close(scene) {
             return Ok(Move::Done);
         }
@@ -517,6 +518,11 @@ pub(crate) fn target(scene: &Scene<'_, '_>) -> f64 {
 /// How much the best plan costs above the bound that the steps have come to, in millionths.
 pub(crate) fn left(steps: &Steps<'_>, scene: &Scene<'_, '_>) -> f64 {
     target(scene) - steps.progress().bound()
+}
+
+/// Whether so little is left in the box of the instance that boxes may come to be tight without a number of sites.
+pub(crate) fn leaves_little(left: f64, scene: &Scene<'_, '_>) -> bool {
+    left < NARROW_PART * target(scene)
 }
 
 /// Whether steps took off such a part of what was left before them.
