@@ -10,7 +10,7 @@ use crate::constants::{
     HINTS, NODE_FACTOR, ROOT_GAIN, ROOT_ROUNDS, ROUND_FACTOR, ROUND_MISSES, ROUND_STEPS,
 };
 use crate::splitting::bound_of;
-use crate::stepping::{Stage, Stepping, Work, gains, leaves_little, left, rounded, target};
+use crate::stepping::{Stage, Stepping, Work, gains, left, rounded, target};
 use dual_steps::Steps;
 use dual_value::{Path, PreparedBox};
 use instance_store::NoMemory;
@@ -95,7 +95,7 @@ impl<'a> Stepping<'a> {
             return Ok(Move::Nothing);
         }
         self.stage = Stage::Own;
-        self.is_narrow = leaves_little(left, scene);
+        self.see_left(scene, left);
         let found = rounded(&mut self.steps, scene, 1, false)?;
         self.first.take_steps(self.steps.values(), 1);
         self.first.take_smoothed(&self.steps);

@@ -87,12 +87,13 @@ pub(crate) struct Stepping<'a> {
     // The bound with which the box was entered, in millionths.
     entered: f64,
     pub(crate) rounds: u32,
-    // In how many boxes steps were begun, and whether the first box was tight behind its rounds.
+    // In how many boxes steps were begun.
     boxes: u32,
+    // Whether the box of the instance was tight behind the steps there.
     is_close: bool,
-    // Whether little was left in the box of the instance: without a number of sites no box is tight else. In a carried
-    // tree it is taken so until steps were taken there.
-    pub(crate) is_narrow: bool,
+    // Whether little was left there: without a number of sites no box is tight else. In a carried tree it is taken so
+    // until steps were taken there.
+    is_narrow: bool,
     // How much the best plan cost above the bound of the steps before the round.
     pub(crate) before: f64,
     // What is known of the box of the instance, and whether that came from a former search.
@@ -200,8 +201,8 @@ impl<'a> Stepping<'a> {
         is_due && 0.0 < left && left < TIGHT_PART * target(scene)
     }
 
-    // Whether the box is tight, and what was done in it took off little of what is left. Where the first box was tight,
-    // or very many boxes didn't suffice, each tight box counts as such.
+    // Whether the box is tight, and what was done in it took off little of what is left. Where the box of the instance
+    // was tight, or very many boxes didn't suffice, each tight box counts as such.
     fn is_stuck(&self, scene: &Scene<'_, '_>, bound: f64) -> bool {
         let left = target(scene) - bound;
         let is_slow = bound - self.entered < STUCK_GAIN * left;
@@ -453,12 +454,20 @@ impl<'a> Stepping<'a> {
         requires { Suits scene.now self.old.steps self.old.plans.flags.items }
     {
         let left = left(&self.steps, scene);
-        self.is_close = self.is_tight(scene, left);
-        self.is_narrow = leaves_little(left, scene);
+        self.see_left(scene, left);
         if !self.may_close(scene) {
             return Ok(Move::Done);
         }
         self.close(scene)
+    }
+
+    /// Sees how much steps in the box of the instance have left.
+    pub(crate) fn see_left(&mut self, scene: &Scene<'_, '_>, left: f64)
+        ensures steps { self.new.steps ≡ self.old.steps }
+        ensures plans { self.new.plans ≡ self.old.plans }
+    {
+        self.is_close = self.is_tight(scene, left);
+        self.is_narrow = left < NARROW_PART * target(scene);
     }
 
     // Sees whether the box may close without a split.
@@ -518,11 +527,6 @@ pub(crate) fn target(scene: &Scene<'_, '_>) -> f64 {
 /// How much the best plan costs above the bound that the steps have come to, in millionths.
 pub(crate) fn left(steps: &Steps<'_>, scene: &Scene<'_, '_>) -> f64 {
     target(scene) - steps.progress().bound()
-}
-
-/// Whether so little is left in the box of the instance that boxes may come to be tight without a number of sites.
-pub(crate) fn leaves_little(left: f64, scene: &Scene<'_, '_>) -> bool {
-    left < NARROW_PART * target(scene)
 }
 
 /// Whether steps took off such a part of what was left before them.
