@@ -194,8 +194,8 @@ pub(crate) const NARROW_PART: f64 = 0.01;
 
 pub(crate) const TIGHT_STEPS: u32 = 120;
 
-/// One is stuck where that took off less than such a part of what is left, and each one where the first box was tight, or
-/// behind so many boxes.
+/// One is stuck where that took off less than such a part of what is left, and each one where the box of the instance was
+/// tight, or behind so many boxes.
 pub(crate) const STUCK_GAIN: f64 = 0.25;
 
 pub(crate) const MANY_BOXES: u32 = 200;

@@ -91,8 +91,7 @@ pub(crate) struct Stepping<'a> {
     boxes: u32,
     // Whether the box of the instance was tight behind the steps there.
     is_close: bool,
-    // Whether little was left there: without a number of sites no box is tight else. In a carried tree it is taken so
-    // until steps were taken there.
+    // Whether little was left there: without a number of sites no box is tight else.
     is_narrow: bool,
     // How much the best plan cost above the bound of the steps before the round.
     pub(crate) before: f64,
@@ -131,7 +130,7 @@ impl<'a> Stepping<'a> {
             rounds: 0,
             boxes: 0,
             is_close: false,
-            is_narrow: regrowth.is_carried(),
+            is_narrow: false,
             before: 0.0,
             first,
             is_known,
