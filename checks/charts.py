@@ -18,7 +18,7 @@ from pathlib import Path
 from common import MICRO, main, money
 from refusals import LANES, ROOT, cells, wrong
 
-import curve
+from planner import chart
 
 CURVES, SVG = 300, "{http://www.w3.org/2000/svg}"
 GOOD = ("count 1 infeasible\ncount 2 bracket 3.000000 none nodes 5 budget 4\ncount 3 bracket 3.000000 5.500000 nodes 5 budget 4\n"
@@ -121,7 +121,7 @@ def called(*words):
     said = io.StringIO()
     try:
         with contextlib.redirect_stdout(said):
-            curve.main([*words])
+            chart.main([*words])
     except cells.Refusal as why:
         return None, str(why)
     return said.getvalue(), None

@@ -3,6 +3,7 @@ import csv
 import decimal
 import io
 import random
+from collections import defaultdict
 from decimal import ROUND_HALF_UP, Decimal
 
 from common import MICRO
@@ -28,21 +29,21 @@ def reading(text, mark):
 
 
 class Spelling:
-    """How a sheet is written: all its numbers have one decimal mark."""
+    """How a sheet is written: all its numbers have one decimal mark, and those of each column have to tell it."""
 
     def __init__(self):
         self.mark, self.delimiter = random.choice([".", ","]), random.choice(",;\t")
         self.gap = random.choice(["", "", "", " ", "'", ",." [self.mark == ","]])
-        self.end, self.numbers = random.choice(["\n", "\r\n"]), []
+        self.end, self.numbers = random.choice(["\n", "\r\n"]), defaultdict(list)
 
-    def number(self, micro):
+    def number(self, micro, column="cost"):
         """An amount, or a coordinate, as a sheet may have it."""
         whole, part = divmod(abs(micro), MICRO)
         text = f"{whole:,}".replace(",", self.gap if random.random() < 0.7 else "")
         digits = f"{part:06}".rstrip("0")
         digits += "0" * random.choice([0, 0, 0, 1, 2, 3])
         text = ("-" if micro < 0 else "") + text + (self.mark + digits if digits else "")
-        self.numbers.append(text.lstrip("-"))
+        self.numbers[column].append(text.lstrip("-"))
         return text
 
     def sheet(self, rows):
@@ -57,10 +58,10 @@ class Spelling:
         return written.getvalue()
 
     def is_told(self):
-        """Whether the numbers leave one decimal mark, or mean the same with both."""
+        """Whether the numbers of each column leave one decimal mark, or mean the same with both."""
         other = "," if self.mark == "." else "."
-        readings = [(reading(it, self.mark), reading(it, other)) for it in self.numbers]
-        return any(it is None for _, it in readings) or all(mine == others for mine, others in readings)
+        columns = [[(reading(it, self.mark), reading(it, other)) for it in those] for those in self.numbers.values()]
+        return all(any(it is None for _, it in column) or all(mine == others for mine, others in column) for column in columns)
 
 
 def some_name(taken):
@@ -104,13 +105,12 @@ class Task:
         spelling = Spelling()
         place_titles = ["x", "y"] * self.has_places
         titles = ["name", random.choice(["fixed cost", "Fixed Cost", "fixed_cost"]), "capacity", "status", *place_titles]
-        rows = [[name, spelling.number(cost), "" if cap is None else spelling.number(cap),
-                 random.choice(["", FREE]) if status == FREE else status,
-                 *(spelling.number(it) for it in at if self.has_places)]
+        rows = [[name, spelling.number(cost), "" if cap is None else spelling.number(cap, "capacity"),
+                 random.choice(["", FREE]) if status == FREE else status, *self.spelt(spelling, at)]
                 for name, cost, cap, status, at in zip(self.site_names, self.fixed, self.capacities, self.status, self.places)]
         self.put_one(scene, SITES, spelling, titles, rows)
         spelling = Spelling()
-        rows = [[name, spelling.number(demand), *(spelling.number(it) for it in at if self.has_places)]
+        rows = [[name, spelling.number(demand), *self.spelt(spelling, at)]
                 for name, demand, at in zip(self.customer_names, self.demands, self.places[self.m:])]
         self.put_one(scene, CUSTOMERS, spelling, ["name", "demand", *place_titles], rows)
         spelling = Spelling()
@@ -126,6 +126,9 @@ class Task:
             self.put_one(scene, LANES, spelling, ["from", "to", "cost"], rows)
         how = ["--lanes", LANES] if self.way != "rate" else ["--rate", cells.money(self.rate)]
         return [*how, *self.options]
+
+    def spelt(self, spelling, at):
+        return [spelling.number(it, axis) for it, axis in zip(at, "xy") if self.has_places]
 
     def put_one(self, scene, name, spelling, titles, rows):
         scene.put(name, spelling.sheet([titles, *rows]), random.choice(["utf-8", "utf-8-sig"]))

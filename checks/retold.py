@@ -4,7 +4,6 @@ import csv
 import io
 import json
 import random
-import re
 
 from common import texts
 from refusals import CUSTOMERS, GOOD, INSTANCE, LANES, MAP, NAMES, PLAN, REPORT, SITES, TABLE, draw, sheets, wrong
@@ -51,24 +50,11 @@ def made(scene, tool, plan, file, *words):
     return said, scene.read(file, "utf-8-sig")
 
 
-def without_lanes(table):
-    """The sheet without what each customer's lane costs."""
-    rows = [*csv.reader(io.StringIO(table))]
-    for row in rows:
-        row[4] = "" if row[0] == "customer" else row[4]
-    return rows
-
-
-def without_prices(picture):
-    """The map without what each customer's lane costs, where a browser shows it."""
-    return re.sub(r"(<title>.*: demand .*) for [0-9.]+</title>", r"\1</title>", picture)
-
-
 def other_numbers(names):
     """The file of names with other costs, capacities, statuses and demands."""
     rows, written = [*csv.DictReader(io.StringIO(names))], io.StringIO()
     for row in rows:
-        row |= {"demand": "7"} if row["kind"] == "customer" else {"fixed cost": "8.5", "capacity": "", "status": "closed"}
+        row |= {"customer": {"demand": "7"}, "site": {"fixed cost": "8.5", "capacity": "", "status": "closed"}}.get(row["kind"], {})
     file = csv.DictWriter(written, rows[0], lineterminator="\n")
     file.writeheader()
     file.writerows(rows)
@@ -76,21 +62,27 @@ def other_numbers(names):
 
 
 def told_anew(scene, report, has_places):
-    """A JSON report has the sheet and the map of its plan text where the instance tells the lanes, and without it just these are
-    missing. Where the file of names has other numbers, those of the instance count."""
+    """A JSON report has the sheet and the map of its plan text, since the instance tells the lanes. Where the file of names has other
+    numbers, those of an instance that is named count."""
     scene.put(REPORT, random.choice([report, rewritten(report)]))
     names, beside = scene.read(NAMES), ("--instance", INSTANCE)
     for tool, file, words in [(sheets, TABLE, ())] + [(draw, MAP, ("--unit", "km"))] * has_places:
         due, bare = made(scene, tool, PLAN, file, *words), made(scene, tool, REPORT, file, *words)
-        less = without_lanes if tool is sheets else without_prices
-        if (bare[0], less(bare[1])) != (due[0], less(due[1])):
-            wrong(report, f"without its lanes {file} is {bare!r}, and with them {due!r}")
+        if bare != due:
+            wrong(report, f"of the report {file} is {bare!r}, and of the plan text {due!r}")
         for known in names, other_numbers(names):
             scene.put(NAMES, known)
             for shown in PLAN, REPORT:
                 if made(scene, tool, shown, file, *words, *beside) != due:
                     wrong((scene.read(shown), known), f"with the instance {file} is {scene.read(file)!r}, and {due[1]!r} is due")
         scene.put(NAMES, names)
+
+
+def same_refusal(scene, words, due):
+    """The first fault that is told is the one that is due."""
+    said, why = scene.call(*words)
+    if said is not None or why.split("\n")[0] != due:
+        wrong(words[1:], f"{said!r}, {why!r}, and {due!r} is due")
 
 
 PIECES = b'0129.,:;+-"[]{} \n\r\0nE\xc3\xa9'
@@ -112,13 +104,13 @@ def edited(scene):
     scene.put(PLAN, scene.program.ask("session", "own", INSTANCE, input=SESSION)[0].split("ok\n")[-1])
     scene.put(REPORT, json_of(scene.read(PLAN)))
     names, beside = scene.read(NAMES), ("--instance", INSTANCE)
-    unlike = f": it opens site 1 for 20, and in {NAMES} that costs 12.5; --instance takes an instance that was edited"
+    unlike = f"{NAMES}: 'Ulm' costs 12.5, and in {INSTANCE} 20; --instance takes an instance that was edited"
     for plan in PLAN, REPORT:
         scene.put(NAMES, names)
-        for words, due in ((), plan + unlike), (beside, f"{NAMES}: it has no customer 3, and {INSTANCE} has one"):
-            if scene.call(sheets, "table", plan, NAMES, TABLE, *words) != (None, due):
-                wrong(SESSION, scene.call(sheets, "table", plan, NAMES, TABLE, *words))
-        scene.put(NAMES, names + "customer,3,C,,,,0,2,2\n")
+        for words in (), beside:
+            same_refusal(scene, (sheets, "table", plan, NAMES, TABLE, *words), f"{NAMES}: it has no customer 3, and {INSTANCE} has one")
+        scene.put(NAMES, names + "customer,3,C,,,,0,2,2,\n")
+        same_refusal(scene, (sheets, "table", plan, NAMES, TABLE), unlike)
         if made(scene, sheets, plan, TABLE, *beside)[1] != EDITED:
             wrong(SESSION, f"the sheet is {scene.read(TABLE)!r}, and {EDITED!r} is due")
         if made(scene, draw, plan, MAP, *beside)[0] != "open 2 closed 0 customers 2\n":
@@ -129,7 +121,7 @@ def plans_at_fault(plan):
     """Plan texts that are cut, changed or of another instance, each with its refusal."""
     lines = plan.splitlines(keepends=True)
     line = lambda at: f", line {at}: this is no line of a plan text, or the last one is missing"
-    neither = ", line 1: neither a plan text, which begins with dualoc-plan, nor a JSON report, which begins with {"
+    neither = ", line 1: neither a plan text, which begins with dualoc-plan or dualoc-center, nor a JSON report, which begins with {"
     changed = lambda old, new: plan.replace(old, new, 1)
     return [
         ("", neither),
@@ -144,13 +136,18 @@ def plans_at_fault(plan):
         (changed("site 2", "site 1"), line(4)),
         (changed("serve 2", "serve 1"), line(6)),
         ("dualoc-plan 1\nbracket 1.000000 none\nend\n", ": it says 'bracket 1.000000 none', and has no plan"),
-        (changed("site 2 ", "site 3 "), f": it opens site 3, which isn't in {NAMES}"),
-        (changed("site 2 7.", "site 2 8."),
-         f": it opens site 2 for 8, and in {NAMES} that costs 7; --instance takes an instance that was edited"),
-        (changed("serve 2 ", "serve 9 "), f": it serves customer 9, who isn't in {NAMES}"),
+        (changed("site 2 ", "site 3 "), f": it opens site 3, which isn't in {INSTANCE}"),
+        (changed("site 2 7.", "site 2 8."), f": it opens site 2 for 8, and in {INSTANCE} that costs 7"),
+        (changed("serve 2 ", "serve 9 "), f": it serves customer 9, who isn't in {INSTANCE}"),
         (changed("serve 2 1", "serve 2 4"), ": it serves customer 2 from site 4, which it doesn't open"),
-        (plan.replace(lines[-2], ""), f": it doesn't serve customer 2 of {NAMES}; --instance takes an instance that was edited"),
-        (changed("serve 2 1 2.", "serve 2 1 3."), ": its costs don't sum to the one that it claims"),
+        (plan.replace(lines[-2], ""), f": it doesn't serve customer 2 of {INSTANCE}"),
+        (changed("serve 2 1 2.", "serve 2 1 3."), f": customer 2 is served from site 1 for 3.25, and in {INSTANCE} that costs 2.25"),
+        (changed("serve 1 1 1.", "serve 1 2 1."), f": customer 1 is served from site 2, and {INSTANCE} has no such lane"),
+        (changed("optimal 2", "optimal 1"), ": its costs don't sum to the one that it claims"),
+        (plan.replace(lines[3], ""), f": it doesn't open site 2, which must be open in {INSTANCE}"),
+        (changed("plan", "center"), line(2)),
+        (changed("plan", "center").replace("optimal 22.75", "radius 2.00"), ": its dearest lane costs 2.25, and 2 is claimed"),
+        ("dualoc-center 1\nbracket 1.000000 none\nend\n", ": it says 'bracket 1.000000 none', and has no plan"),
     ]
 
 
@@ -180,9 +177,9 @@ def reports_at_fault(report):
         (changed("[1,2]", "9" * 10**4), ": it has a number or a list that no JSON report has"),
         ('{"answer":"infeasible"}\n', ": it says 'infeasible', and has no plan"),
         ('{"answer":"bracket","cost":null,"low":"1.000000","sites":[]}\n', ": it says 'bracket', and has no plan"),
-        (changed('"id":2', '"id":3'), f": it opens site 3, which isn't in {NAMES}"),
-        (changed("[1,2]", "[1]"), f": it doesn't serve customer 2 of {NAMES}; --instance takes an instance that was edited"),
-        (changed("[1,2]", "[1,2,9]"), f": it serves customer 9, who isn't in {NAMES}"),
+        (changed('"id":2', '"id":3'), f": it opens site 3, which isn't in {INSTANCE}"),
+        (changed("[1,2]", "[1]"), f": it doesn't serve customer 2 of {INSTANCE}"),
+        (changed("[1,2]", "[1,2,9]"), f": it serves customer 9, who isn't in {INSTANCE}"),
     ]
 
 
@@ -195,7 +192,12 @@ def instances_at_fault(own):
         (own.replace("end\n", ""), form(8)),
         (own.replace("7.000000", "7,0"), form(8)),
         (own.replace("7.000000", "7.5"), f"{{}}: it opens site 2 for 7, and in {INSTANCE} that costs 7.5"),
-        (own.replace("customer 2", "customer 3"), f"{NAMES}: it has no customer 3, and {INSTANCE} has one"),
+        (own.replace("customer 2", "customer 3"), form(6)),
+        (own + "more", f"{INSTANCE}, line 9: something stands behind the end"),
+        (own.replace("20.000000", "5.000000"), f"{{}}: site 1 serves 5.5, and in {INSTANCE} its capacity is 5"),
+        (own.replace("open", "closed"), f"{{}}: it opens site 2, which must stay closed in {INSTANCE}"),
+        (own.replace("0 3000", "0 1"), f"{{}}: it opens 2 sites, and in {INSTANCE} from 0 to 1 are to be open"),
+        (own.replace("2 next 3\ncount", "2 next 4\ncount").replace("customer 2", "customer 3"), f"{NAMES}: it has no customer 3, and {INSTANCE} has one"),
         (own.replace("1.000000 2.250000", "1 none"), f"{{}}: customer 2 is served from site 1, and {INSTANCE} has no such lane"),
     ]
 
@@ -239,9 +241,9 @@ def refuse_answers(scene):
     def refused(text, due, *words):
         for tool, file, before in (sheets, TABLE, ["table"]), (draw, MAP, []):
             scene.put(file, "before")
-            said = scene.call(tool, *before, text, NAMES, file, *words)
-            if said != (None, due) or scene.read(file) != "before":
-                wrong((scene.read(text), words), f"{said!r}, and {due!r} is due")
+            same_refusal(scene, (tool, *before, text, NAMES, file, *words), due)
+            if scene.read(file) != "before":
+                wrong((scene.read(text), words), f"it is refused, and {file} is written")
 
     told = [(PLAN, *it) for it in plans_at_fault(plan)] + [(REPORT, *it) for it in reports_at_fault(json_of(plan))]
     for name, text, due in told:
@@ -256,18 +258,24 @@ def refuse_answers(scene):
         for name in PLAN, REPORT:
             refused(name, due.format(name), "--instance", INSTANCE)
     scene.put(INSTANCE, own.replace("2.250000", "2.5"))
-    refused(PLAN, f"{PLAN}: customer 2 is served from site 1, and {INSTANCE} has it for 2.5", "--instance", INSTANCE)
+    refused(PLAN, f"{PLAN}: customer 2 is served from site 1 for 2.25, and in {INSTANCE} that costs 2.5", "--instance", INSTANCE)
     refused(REPORT, f"{REPORT}: its costs don't sum to the one that it claims", "--instance", INSTANCE)
     scene.put(INSTANCE, own)
     for old, new, due in [("site,2", "site,1", "row 3, column B (id): '1' is another site's"),
                           ("site,2", "site,1.5", "row 3, column B (id): '1.5' isn't whole"),
-                          ("site,2", "shop,2", "row 3, column A (kind): 'shop' is neither site nor customer"),
+                          ("site,2", "shop,2", "row 3, column A (kind): 'shop' is none of site, customer, rule, sheet"),
+                          ("rule,,instance", "rule,,instants", f"row 6, column J (value): '{INSTANCE}' is no value of 'instants'"),
                           ("kind,", "sort,", "row 1: this is no file of names, whose titles are kind, id, name, fixed cost, capacity, "
-                           "status, demand, x, y")]:
+                           "status, demand, and perhaps x, y, lat, lon, throughput cost, value")]:
         scene.put(NAMES, names.replace(old, new))
         refused(PLAN, f"{NAMES}, {due}")
+    for old, new, due in [(INSTANCE, "nowhere.own", f"nowhere.own: there is no such file, and {NAMES} tells it as its instance; --instance "
+                           "names another"), (f"rule,,instance,,,,,,,{INSTANCE}\n", "", f"{NAMES}: it doesn't tell its instance; "
+                                                                                "--instance names it")]:
+        scene.put(NAMES, names.replace(old, new))
+        refused(PLAN, due)
     scene.put(NAMES, names.replace(",,2,0,0", ",,2,,"))
     if scene.call(draw, REPORT, NAMES, MAP)[1] != f"{NAMES}: 'A' has no x and y":
         wrong(plan, scene.call(draw, REPORT, NAMES, MAP))
     scene.put(NAMES, names)
-    return len(told) + len(instances_at_fault(own)) + 7, changed_anyhow(scene)
+    return len(told) + len(instances_at_fault(own)) + 10, changed_anyhow(scene)

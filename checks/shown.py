@@ -10,11 +10,12 @@ import re
 import shlex
 import subprocess
 import sys
+import urllib.request
 
 from common import PATIENCE, main
 from crates import ROOT
 
-PAGES = "README.md", "docs/SHEETS.md", "docs/SESSIONS.md"
+PAGES = "README.md", "docs/SHEETS.md", "docs/SESSIONS.md", "docs/MODELLING.md", "docs/BOARD.md"
 COMMAND = re.compile(r"(?:\./dualoc (?!--)|python3 tools/|printf )(?!.*\b[A-Z]{2,}\b)")
 # What a page shows: a block, the rows of a session, or words in a line.
 SHOWN = re.compile(r"```(?P<kind>\w*)\n(?P<block>.*?)```|\| Line \| Reply \| \|\n\|[-|]+\n(?P<rows>(?:\|[^\n]*\n)+)|`(?P<words>[^`\n]+)`", re.S)
@@ -22,6 +23,14 @@ ROW = re.compile(r"\| `(?P<line>[^`]*)` \| (?P<replies>`.*`) \|[^|]*\|")
 SAYS = re.compile(r",? ?(?:then )?(?:prints|says)[ \n]+(?:```\n(?P<block>.*?)```|`(?P<words>[^`\n]+)`)", re.S)
 LATER = re.compile(r"(?:cert|save) [\w.]+\Z")
 DESK = ROOT / "crates/dualoc_desk/out/dualoc_desk"
+# What stands for the script `dualoc`: it runs the program, the desk, or the package, which finds the program by it.
+SCRIPT = """#!/bin/sh
+case $1 in
+desk) shift; exec {desk} "$@" ;;
+sheets|compare|draw|chart|console|board|report) DUALOC=$0 PYTHONPATH={root} exec {python} -m planner "$@" ;;
+esac
+exec {program} "$@"
+"""
 
 
 class Reader:
@@ -33,7 +42,8 @@ class Reader:
         for name in "examples", "tools":
             os.symlink(ROOT / name, f"{self.folder}/{name}")
         with open(f"{self.folder}/dualoc", "w") as file:
-            file.write(f'#!/bin/sh\n[ "$1" = desk ] && shift && exec {shlex.quote(os.path.abspath(desk))} "$@"\nexec {shlex.quote(program.path)} "$@"\n')
+            file.write(SCRIPT.format(desk=shlex.quote(os.path.abspath(desk)), python=shlex.quote(sys.executable), root=shlex.quote(str(ROOT)),
+                                     program=shlex.quote(program.path)))
         os.chmod(f"{self.folder}/dualoc", 0o755)
 
     def fail(self, words, why):
@@ -41,7 +51,8 @@ class Reader:
 
     def run(self, words, input=""):
         """What the commands print. The last of them has to end well."""
-        how = {"cwd": self.folder, "stdout": subprocess.PIPE, "stderr": subprocess.PIPE, "text": True, "timeout": PATIENCE}
+        found = {**os.environ, "PYTHONPATH": str(ROOT), "DUALOC": f"{self.folder}/dualoc"}
+        how = {"cwd": self.folder, "env": found, "stdout": subprocess.PIPE, "stderr": subprocess.PIPE, "text": True, "timeout": PATIENCE}
         ran = subprocess.run(words, input=input, **how)
         if ran.returncode or ran.stderr:
             self.fail(words, f"it ends with {ran.returncode}, and prints {ran.stdout + ran.stderr!r}")
@@ -49,12 +60,28 @@ class Reader:
         return ran.stdout
 
     def follow(self, command, rest):
-        """Runs a command, and compares its output with what the text behind it says of that."""
+        """Runs a command, and compares its output with what the text behind it says of that. A board stands last, and only opens."""
+        if "./dualoc board" in command:
+            *before, board = command.splitlines()
+            for line in before:
+                self.follow(line, "")
+            return self.open_board(board)
         if re.search(r"\./dualoc (session|desk)", command) and not command.startswith("printf"):
             self.session = command
         said, due = self.run(["sh", "-c", command]), SAYS.match(rest)
         if due and not said.startswith((due["block"] or due["words"])):
             self.fail(command, f"it prints {said!r}, and {due[0]!r} is shown")
+
+    def open_board(self, command):
+        """Begins a board, opens the page at the address that it prints, and ends it."""
+        with subprocess.Popen(shlex.split(command), cwd=self.folder, stdout=subprocess.PIPE, text=True) as board:
+            try:
+                with urllib.request.urlopen(board.stdout.readline().strip(), timeout=PATIENCE) as page:
+                    if b"<title>Board</title>" not in page.read():
+                        self.fail(command, "its page isn't there")
+            finally:
+                board.terminate()
+        self.done += 1
 
     def converse(self, rows, rest):
         """Tells a session the lines of the rows, and behind them those that write files, which have the reply ok."""

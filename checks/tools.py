@@ -19,15 +19,24 @@ from pathlib import Path
 
 from common import MICRO, main
 from instances import DONE
-from planners import Task
+from planners import Task, reading
 from refusals import (CUSTOMERS, FILES, GOOD, INSTANCE, LANES, MAP, NAMES, PLAN, REPORT, ROOT, SITES, TABLE, Scene, cells, draw,
                       refuse, sheets, wrong)
 from retold import edited, plan_in_session, refuse_answers, told_anew
 
 SHEETS = 300
+# What is said of the example's sheets.
+SAID = ("sites 6, capacity 1,200, fixed costs 10,850; customers 20, demand 586, the largest 45; "
+        "lanes 102 and 18 pairs without one, 158.4 to 1,841.4 each\n")
 # How the pictures of the pages are drawn.
 DRAWN = "--title", "The region", "--unit", "km"
 SVG = "{http://www.w3.org/2000/svg}"
+
+
+def in_cell(name):
+    """A name as it stands in a sheet: what begins like a formula, and is no number, stands behind an apostrophe."""
+    is_number = name[0] == "-" and any(reading(name[1:], mark) is not None for mark in ".,")
+    return "'" + name if name[0] in "=+-@" and not is_number else name
 
 
 def same_table(scene, task, inst, comma):
@@ -42,7 +51,8 @@ def same_table(scene, task, inst, comma):
     units = lambda micro: None if micro is None else Decimal(micro) / MICRO
     demand, by_id = dict(inst.customers), {s: rest for s, *rest in inst.sites}
     served = {int(it[1]): (int(it[2]), Decimal(it[3])) for it in plan if it[0] == "serve"}
-    due = [("customer", task.customer_names[c - 1], task.site_names[s - 1], None, cost, units(demand[c]), None, None, None)
+    customers, sites = ([in_cell(it) for it in those] for those in (task.customer_names, task.site_names))
+    due = [("customer", customers[c - 1], sites[s - 1], None, cost, units(demand[c]), None, None, None)
            for c, (s, cost) in served.items()]
 
     def room(what, name, count, cost, load, cap):
@@ -52,7 +62,7 @@ def same_table(scene, task, inst, comma):
     opened = [(int(it[1]), Decimal(it[2])) for it in plan if it[0] == "site"]
     for s, fixed in opened:
         mine = [c for c, (by, _) in served.items() if by == s]
-        due.append(room("site", task.site_names[s - 1], len(mine), fixed, Decimal(sum(demand[c] for c in mine)), by_id[s][1]))
+        due.append(room("site", sites[s - 1], len(mine), fixed, Decimal(sum(demand[c] for c in mine)), by_id[s][1]))
     caps = [by_id[s][1] for s, _ in opened]
     total = sum(cost for _, cost in opened) + sum(cost for _, cost in served.values())
     due.append(room("total", plan[1][0], len(served), total, Decimal(sum(demand.values())), None if None in caps else sum(caps)))
@@ -170,7 +180,7 @@ def example(scene):
         if ask(*words, "--help")[1] or ask(*words)[1] != 2 or "usage:" not in ask(*words, "--help")[0]:
             wrong(words, "there is no help")
     said = ask(tools[0], "own", *(str(at / name) for name in FILES[:2]), INSTANCE, NAMES, "--lanes", str(at / LANES))
-    if said != ("sites 6 customers 20 lanes 102 and 18 pairs without one\n", 0):
+    if said != (SAID, 0):
         wrong("the example", said)
     cost = scene.program.ask("solve", "own", INSTANCE, PLAN, "proof")[0].split()[1]
     if scene.program.ask("check", "own", INSTANCE, "proof")[0] != f"yes optimal {cost}\n":
