@@ -2,8 +2,9 @@
 
 What docs/DEFINITIONS.md and docs/TRUST.md name has to be there: a definition in the crate that its row or its heading names,
 a call in the crate of its row, a clause in the record of which it is said to be one. No table is parted by an empty line, and
-each of its rows has as many cells as its head. docs/ARCHITECTURE.md has a row for each crate and draws what a yes rests on and
-how the search is built, with just the crates for which that is so. README.md names the kit that is on the machine.
+each of its rows has as many cells as its head. docs/ARCHITECTURE.md has a row for each crate and draws what a yes rests on,
+how the search is built, and what only proposes, with just the crates for which that is so: no answer rests on what proposes.
+README.md names the kit that is on the machine.
 """
 import re
 import shutil
@@ -15,8 +16,11 @@ from crates import ROOT, below, code, definitions, lemmas, listed, pages
 CRATES = listed()
 # What a yes rests on: the checker, what reads an instance, and what prints the yes.
 CHECKER, READERS, PRINTS = "certificate_check", ("ufllib_read", "orlib_read", "pmed_paths", "instance_text", "instance_forms"), ("dualoc_cli", "dualoc")
+# What answers: runs and sessions; what keeps scenarios; the programs; and what only proposes.
+ANSWERS, KEEPERS, MAINS = ("dualoc_cli", "desk_cli", "session_laws"), ("sqlite_keeper",), ("dualoc", "dualoc_desk", "small_solver")
+PROPOSES = {"search_strategy", "cover_strategy", "set_search", "whole_steps", "side_multipliers", "dual_steps", "best_solver"}
 # Crates that are in no drawing: tests, and what they alone call.
-TESTS = {it for it in CRATES if it.endswith("_rows")} | {"example_instances", "memory_runs"}
+TESTS = {it for it in CRATES if it.endswith("_rows")} | {"example_instances", "memory_runs", "small_solver"}
 # Words that stand in the place of names: the prover's, the forms', placeholders and the kit's crates.
 OTHER = {"List", "m", "n", "main", "duals", "cap", "uncap", "ufl", "pmed", "own", "capacity", "check",
          "indexmap", "itoa", "thiserror", "circular_buffer", "json", "serde_json", "rand_core", "rand_xoshiro", "sqlite", "sqlite_value"}
@@ -135,12 +139,18 @@ def check_map():
     differ(f"the table of {page}", set(rows), set(CRATES))
     trusted = (below(CRATES, CHECKER, *READERS) | set(PRINTS)) - TESTS
     found = drawings(page)
-    if len(found) != 2:
-        return fault(page, f"there are {len(found)} drawings, and two are due")
+    if len(found) != 3:
+        return fault(page, f"there are {len(found)} drawings, and three are due")
     differ(f"the first drawing of {page}", found[0], trusted)
-    missing = set(CRATES) - trusted - TESTS - found[1]
-    for name in sorted(missing | (found[1] - set(CRATES))):
-        fault(f"the second drawing of {page}", f"{name} is {'missing' if name in missing else 'no crate'}")
+    # The mains hand in what proposes: nothing that an answer rests on stands on it.
+    proposes = below(CRATES, *MAINS) - below(CRATES, *ANSWERS) - TESTS - set(MAINS)
+    beside = trusted | below(CRATES, *ANSWERS)
+    differ(f"the third drawing of {page}", found[2] - beside - set(MAINS), proposes - below(CRATES, *KEEPERS))
+    missing = set(CRATES) - trusted - TESTS - found[1] - found[2]
+    for name in sorted(missing | ((found[1] | found[2]) - set(CRATES))):
+        fault(f"the drawings of {page}", f"{name} is {'missing' if name in missing else 'no crate'}")
+    for name in sorted(PROPOSES & (beside | below(CRATES, *KEEPERS))):
+        fault("crates.txt", f"an answer rests on {name}, which only proposes")
 
 
 def check_kit():

@@ -1,9 +1,11 @@
-use center_solve::{Answer, CenterAnswer, center, curve, with_exact_count};
+use center_solve::{Answer, CenterAnswer, center, curve_entry, with_exact_count};
 use example_instances::{customer, ring, site};
 use instance_store::{Instance, LaneRow, NoMemory};
+use solver_port::PlainSolver;
 use std::alloc::Global;
 use std::test::Fail;
 use tree_search::max_nodes;
+use watch_port::{KthWatch, NoWatch};
 
 // Three places on a road, 4 and 7 units apart, each a site and a customer: the p-median file of the lines
 // `3 3 1`, `1 2 4` and `2 3 7`.
@@ -32,8 +34,9 @@ fn radius(answer: CenterAnswer) -> Option<u64> {
 // The best radius with so many sites.
 fn radius_with(alloc: Global, inst: &Instance, count: u32) -> Result<Option<u64>, NoMemory> {
     let counted = with_exact_count(alloc, inst, count.min(3_000))?;
-    let answer = center(alloc, &counted, max_nodes(&counted))?;
-    Ok(radius(answer))
+    let budget = max_nodes(&counted);
+    let sought = center(alloc, &counted, budget, &mut PlainSolver, &mut NoWatch)?;
+    Ok(radius(sought.answer))
 }
 
 // The least cost, and None where there is no plan; a search that stayed open has the cost 1.
@@ -47,8 +50,17 @@ fn cost(answer: Answer) -> Option<u64> {
 
 // The least cost with so many sites.
 fn cost_with(alloc: Global, inst: &Instance, count: u32) -> Result<Option<u64>, NoMemory> {
-    let answer = curve(alloc, inst, count.min(3_000), max_nodes(inst))?;
-    Ok(cost(answer))
+    let budget = max_nodes(inst);
+    let solved = curve_entry(
+        alloc,
+        inst,
+        count.min(3_000),
+        budget,
+        &mut PlainSolver,
+        None,
+        &mut NoWatch,
+    )?;
+    Ok(cost(solved.answer))
 }
 
 fn has_radii(alloc: Global, inst: &Instance) -> Result<bool, NoMemory> {
@@ -67,6 +79,38 @@ fn has_costs(alloc: Global, inst: &Instance) -> Result<bool, NoMemory> {
             && cost_with(alloc, inst, 3)? == Some(0)
             && cost_with(alloc, inst, 4)?.is_none(),
     )
+}
+
+// Whether a search that its watch ends behind so many questions leaves both ends of the best radius, and spent what it says.
+fn is_ended(alloc: Global, inst: &Instance, quiet: u64, best: u64) -> Result<bool, NoMemory> {
+    let budget = max_nodes(inst);
+    let mut watch = KthWatch::after(quiet);
+    let sought = center(alloc, inst, budget, &mut PlainSolver, &mut watch)?;
+    let spent = sought.budget;
+    let answer = sought.answer;
+    Ok(match answer {
+        CenterAnswer::Best { radius, .. } => radius == best,
+        CenterAnswer::Infeasible { .. } => false,
+        CenterAnswer::Open { low, probe, .. } => {
+            low <= best && spent < budget && spent <= probe.nodes()
+        }
+    })
+}
+
+// Whether it is so of the best radius with two sites, wherever it is ended.
+fn is_ended_anywhere(alloc: Global, inst: &Instance) -> Result<bool, NoMemory> {
+    let counted = with_exact_count(alloc, inst, 2)?;
+    for quiet in 0..12 {
+        if !is_ended(alloc, &counted, quiet, 4_000_000)? {
+            return Ok(false);
+        }
+    }
+    Ok(true)
+}
+
+fn road_is_ended(alloc: Global) -> Result<bool, Fail> {
+    let inst = road(alloc)?;
+    Ok(is_ended_anywhere(alloc, &inst)?)
 }
 
 fn road_has_radii(alloc: Global) -> Result<bool, Fail> {
@@ -91,5 +135,11 @@ fn finds_centers_and_the_cost_curve(rt: HostRuntime) -> Result<(), Fail> {
     assert!(rt; road_has_radii(rt.alloc())?);
     assert!(rt; road_has_costs(rt.alloc())?);
     assert!(rt; ring_needs_two(rt.alloc())?);
+    Ok(())
+}
+
+#[test]
+fn a_watch_ends_a_search_for_a_center(rt: HostRuntime) -> Result<(), Fail> {
+    assert!(rt; road_is_ended(rt.alloc())?);
     Ok(())
 }

@@ -23,23 +23,23 @@ module _ (I : Instance) (valid : IsValid I) where
   least r t shown = least_from_impossible I r (impossible (below_cost I r) t (valid_below I r valid) shown)
 
   -- what an answer means
-  pub answer_holds : (budget : ℕ) (a : CenterAnswer) → IsCenterAnswer I budget a → CenterHolds I a
-  answer_holds budget (Best radius plan tree) answer = (record { feasible = answer.0; least = subst (IsLeastRadius I) answer.1 (least radius tree answer.2) }, answer.1)
-  answer_holds budget (Infeasible tree) answer = impossible I tree valid answer.0
-  answer_holds budget (Open low plan tree at probe) answer = (least low tree answer.shown, answer.feasible)
+  pub answer_holds : (given left : ℕ) (a : CenterAnswer) → IsCenterAnswer I given left a → CenterHolds I a
+  answer_holds given left (Best radius plan tree) answer = (record { feasible = answer.0; least = subst (IsLeastRadius I) answer.1 (least radius tree answer.2) }, answer.1)
+  answer_holds given left (Infeasible tree) answer = impossible I tree valid answer.0
+  answer_holds given left (Open low plan tree at probe) answer = (least low tree answer.shown, answer.feasible)
 
-  module _ (budget : ℕ) (k : Known) (known : IsKnownSoFar I budget k) where
+  module _ (given left : ℕ) (k : Known) (known : IsKnownSoFar I given k) where
     -- the two ends have met
-    pub best_answer : k.radius ≤ k.low → (a : CenterAnswer) → a ≡ Best k.radius k.plan k.tree → IsCenterAnswer I budget a
+    pub best_answer : k.radius ≤ k.low → (a : CenterAnswer) → a ≡ Best k.radius k.plan k.tree → IsCenterAnswer I given left a
     best_answer met a is =
         let low : k.low ≤ radius_of I k.plan = least k.low k.tree known.shown k.plan known.feasible in
         let same : k.low ≡ k.radius = omega (arith, low, met, known.exact) in
-        subst (IsCenterAnswer I budget) (sym is) (known.feasible, known.exact, subst (λ r. ShowsNoPlan (below_cost I r) k.tree) same known.shown, known.sized)
+        subst (IsCenterAnswer I given left) (sym is) (known.feasible, known.exact, subst (λ r. ShowsNoPlan (below_cost I r) k.tree) same known.shown, known.sized)
 
     module _ (at : ℕ) (above : k.low < at) (within : at ≤ k.radius) where
       -- the probe stayed open
-      pub stopped_answer : (tree : Tree) → IsProbeOf I at budget (probes.Open tree) → (a : CenterAnswer) → a ≡ Open k.low (Some k.plan) k.tree at tree → IsCenterAnswer I budget a
-      stopped_answer tree probe a is = subst (IsCenterAnswer I budget) (sym is) (record {
+      pub stopped_answer : (tree : Tree) → IsProbeOf I at given left (probes.Open tree) → (a : CenterAnswer) → a ≡ Open k.low (Some k.plan) k.tree at tree → IsCenterAnswer I given left a
+      stopped_answer tree probe a is = subst (IsCenterAnswer I given left) (sym is) (record {
         shown = known.shown;
         sized = known.sized;
         feasible = known.feasible;
@@ -50,12 +50,12 @@ module _ (I : Instance) (valid : IsValid I) where
       })
 
   -- the first probe
-  module _ (at : ℕ) (just : IsJustAboveLanes I at) where
-    pub none_answer : (budget : ℕ) (tree : Tree) → IsProbeOf I at budget (probes.Empty tree) → IsCenterAnswer I budget (Infeasible tree)
-    none_answer budget tree probe = (subst (λ J. ShowsNoPlan J tree) (below_all I at just.above) probe.0, probe.1)
+  module _ (at : ℕ) (just : IsJustAboveLanes I at) (given left : ℕ) where
+    pub none_answer : (tree : Tree) → IsProbeOf I at given left (probes.Empty tree) → IsCenterAnswer I given left (Infeasible tree)
+    none_answer tree probe = (subst (λ J. ShowsNoPlan J tree) (below_all I at just.above) probe.0, probe.1)
 
-    pub first_open : (budget low : ℕ) (tree probe : Tree) → low ≡ 0 → ShowsNoPlan (below_cost I low) tree → nodes_of tree ≡ 1 → IsProbeOf I at budget (probes.Open probe) → IsCenterAnswer I budget (Open low None tree at probe)
-    first_open budget low tree probe nothing shown one open_probe = record {
+    pub first_open : (low : ℕ) (tree probe : Tree) → low ≡ 0 → ShowsNoPlan (below_cost I low) tree → nodes_of tree ≡ 1 → IsProbeOf I at given left (probes.Open probe) → IsCenterAnswer I given left (Open low None tree at probe)
+    first_open low tree probe nothing shown one open_probe = record {
       shown = shown;
       sized = inl one;
       feasible = tt;

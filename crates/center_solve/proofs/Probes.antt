@@ -13,15 +13,18 @@ use Rattle.tree_search.specs.declared.answer.Answer.{Answer}
 use Rattle.tree_search.specs.declared.answer.Answer.TheVariants.{Optimal, Infeasible, Bracket}
 use Rattle.tree_search.specs.Made.{has_cap}
 use Rattle.tree_search.specs.Answer.{HasFreeCount, IsWithin, IsAnswerTo, IsDecided, most_decisions, claim_in, plan_in, tree_in}
-use Rattle.tree_search.proofs.Decided.{decided}
+use Rattle.tree_search.proofs.Decided.{decided, grown_within}
 use Rattle.tree_search.proofs.Started.{at_zeros_told}
 use Rattle.plan_radius.specs.Radius.{radius_of}
 use Rattle.plan_radius.specs.Cheaper.{costless, below_cost, without_costs}
 use Rattle.plan_radius.proofs.Thresholds.{cheap_exact}
 use Rattle.plan_radius.proofs.Costless.{any-costless, site_ids-costless, length-costless, feasible_costless, all_close-costless}
-use Rattle.center_solve.specs.Center.{ShowsNoPlan, root_of, probed, with_exact_count}
+use Rattle.solver_port.specs.Start.{root_of}
+use Rattle.center_solve.specs.declared.answer.CenterAnswer.{CenterAnswer}
+use Rattle.center_solve.specs.declared.answer.CenterAnswer.TheVariants as centers
+use Rattle.center_solve.specs.Center.{ShowsNoPlan, IsOpenProbe, IsCenterAnswer, HasEndedSearch, probed, with_exact_count}
 use Rattle.center_solve.specs.declared.probe.Finding.{Finding}
-use Rattle.center_solve.specs.Probing.{probe_in, IsProbeOf, IsClear}
+use Rattle.center_solve.specs.Probing.{probe_in, IsProbeOf}
 
 -- what shows that there is no plan where nothing costs anything shows it
 shows_costless : (I : Instance) (t : Tree) → ShowsNoPlan (without_costs I) t → ShowsNoPlan I t
@@ -47,11 +50,11 @@ module _ (I : Instance) (at : ℕ) where
   free_count : HasFreeCount I → HasFreeCount Z
   free_count free = record { lo = free.lo; hi = subst (λ m. m ≤ I.hi) (sym as_many) free.hi }
 
-  probe_shows : IsValid I → (budget : ℕ) (a : Answer) → IsAnswerTo Z (root_of Z) None budget a → IsProbeOf I at budget (probe_in a)
-  probe_shows valid budget (Optimal plan cost tree made) answer = found valid plan answer.accepted.shows.0.0
-  probe_shows valid budget (Infeasible tree made) answer = (shows_costless (below_cost I at) tree answer.accepted, inr (at, answer.grown, omega (arith, answer.made, answer.within)))
-  probe_shows valid budget (Bracket low (Some plan) tree made) answer = found valid plan answer.accepted.shows.0.0
-  probe_shows valid budget (Bracket low None tree made) answer = (
+  probe_shows : IsValid I → (given left : ℕ) → left ≤ given → (a : Answer) → IsAnswerTo Z (root_of Z) None left a → IsProbeOf I at given left (probe_in a)
+  probe_shows valid given left less (Optimal plan cost tree made) answer = found valid plan answer.accepted.shows.0.0
+  probe_shows valid given left less (Infeasible tree made) answer = (shows_costless (below_cost I at) tree answer.accepted, inr (at, answer.grown, omega (arith, answer.made, answer.within, less)))
+  probe_shows valid given left less (Bracket low (Some plan) tree made) answer = found valid plan answer.accepted.shows.0.0
+  probe_shows valid given left less (Bracket low None tree made) answer = (
     record {
       grown = answer.grown;
       sought = answer.sought;
@@ -63,8 +66,9 @@ module _ (I : Instance) (at : ℕ) where
   )
 
   -- the same of the instance that the code makes
-  pub probe_found : IsValid I → (budget : ℕ) (J : Instance) → J ≡ Z → (a : Answer) → IsAnswerTo J (root_of J) None budget a → (p : Finding) → p ≡ probe_in a → IsProbeOf I at budget p
-  probe_found valid budget J is a answer p told = subst (IsProbeOf I at budget) (sym told) (probe_shows valid budget a (subst (λ (A : Instance). IsAnswerTo A (root_of A) None budget a) is answer))
+  pub probe_found : IsValid I → (given left : ℕ) → left ≤ given → (J : Instance) → J ≡ Z → (a : Answer) → IsAnswerTo J (root_of J) None left a → (p : Finding) → p ≡ probe_in a → IsProbeOf I at given left p
+  probe_found valid given left less J is a answer p told =
+      subst (IsProbeOf I at given left) (sym told) (probe_shows valid given left less a (subst (λ (A : Instance). IsAnswerTo A (root_of A) None left a) is answer))
 
   pub probe_within : (budget : ℕ) → IsWithin I budget → (J : Instance) → J ≡ Z → IsWithin J budget
   probe_within budget small J is = subst (λ (A : Instance). IsWithin A budget) (sym is) (subst (λ m. 2 * budget * (m + length I.customers) ≤ MAX_TREE_NUMBERS) (sym as_many) small)
@@ -76,17 +80,18 @@ module _ (I : Instance) (at : ℕ) where
   decisions : most_decisions Z ≡ most_decisions I
   decisions = λ k. if capped k then as_many k + as_many k * length I.customers else as_many k
 
-  clear : (a : Answer) → IsDecided a → IsClear (probe_in a)
-  clear (Optimal plan cost tree made) ended = tt
-  clear (Infeasible tree made) ended = tt
-  clear (Bracket low plan tree made) ended = absurd ended
+  -- a tree that grew from the root leaf has less than 2 ^ (decisions + 1) nodes, so that a greater budget isn't spent
+  pub open_spends : (left : ℕ) (probe : Tree) → IsOpenProbe Z left probe → left < 2 ^ (most_decisions I + 1)
+  open_spends left probe opened =
+      let sized = grown_within Z (root_of Z) None None probe (false ∷ []) (at_zeros_told Z) opened.grown in
+      let same : 2 ^ (most_decisions Z + 1) ≡ 2 ^ (most_decisions I + 1) = ap (λ n. 2 ^ (n + 1)) decisions in
+      omega (arith, sized, opened.spent, same)
 
-  probe_clear : (budget : ℕ) (a : Answer) → IsAnswerTo Z (root_of Z) None budget a → 2 ^ (most_decisions I + 1) ≤ budget → IsClear (probe_in a)
-  probe_clear budget a answer enough =
-      clear a (decided Z (root_of Z) None budget (false ∷ []) a (at_zeros_told Z) answer (let same : 2 ^ (most_decisions Z + 1) ≡ 2 ^ (most_decisions I + 1) = ap (λ n. 2 ^ (n + 1)) decisions in omega (arith, enough, same)))
-
-  pub probe_cleared : (budget : ℕ) (J : Instance) → J ≡ Z → (a : Answer) → IsAnswerTo J (root_of J) None budget a → (p : Finding) → p ≡ probe_in a → 2 ^ (most_decisions I + 1) ≤ budget → IsClear p
-  probe_cleared budget J is a answer p told enough = subst IsClear (sym told) (probe_clear budget a (subst (λ (A : Instance). IsAnswerTo A (root_of A) None budget a) is answer) enough)
+-- a search with such a budget left comes to an end
+pub ends_within : (I : Instance) (given left : ℕ) (a : CenterAnswer) → IsCenterAnswer I given left a → 2 ^ (most_decisions I + 1) ≤ left → HasEndedSearch a
+ends_within I given left (centers.Best radius plan tree) answer enough = tt
+ends_within I given left (centers.Infeasible tree) answer enough = tt
+ends_within I given left (centers.Open low plan tree at probe) answer enough = absurd (let spent = open_spends I at left probe answer.ended in omega (arith, spent, enough))
 
 -- The cost curve: the instance whose plans open so many sites.
 module _ (I : Instance) (count budget : ℕ) (J : Instance) (is : J ≡ with_exact_count I count) where

@@ -7,11 +7,10 @@ use Rattle.location_terms.specs.Optimal.{IsImpossible}
 use Rattle.location_terms.specs.Tree.{Tree, nodes_of}
 use Rattle.location_terms.specs.Certificate.{IsAccepted}
 use Rattle.instance_store.specs.Changes.{with_count as with_counts}
-use Rattle.dual_value.specs.Zeros.{zeros}
-use Rattle.branch_tree.specs.Made.{leaf_of}
 use Rattle.plan_search.specs.InBox.{HasNoCaps}
 use Rattle.tree_search.specs.Grown.{IsGrownFrom, PlansWereSought}
 use Rattle.tree_search.specs.Answer.{HasFreeCount, HasOpenLeaf}
+use Rattle.solver_port.specs.Start.{root_of}
 use Rattle.plan_radius.specs.Radius.{radius_of, IsLeastRadius, IsCenter, IsAboveLanes}
 use Rattle.plan_radius.specs.Cheaper.{below_cost, without_costs}
 use Rattle.center_solve.specs.declared.answer.CenterAnswer.{CenterAnswer}
@@ -24,10 +23,6 @@ with_exact_count I count = with_counts I count count
 -- the tree alone is an accepted certificate that no plan is feasible
 abbrev pub ShowsNoPlan : Instance → Tree → Type 0
 ShowsNoPlan I t = IsAccepted I (record { claim = NoPlan; plan = None; tree = t })
-
--- the root leaf of zeros, from which each probe starts
-abbrev pub root_of : Instance → Tree
-root_of I = leaf_of I (zeros I 1)
 
 -- the instance that a probe searches: its feasible plans are those of a radius below this
 abbrev pub probed : Instance → ℕ → Instance
@@ -48,27 +43,28 @@ pub record IsJustAboveLanes (I : Instance) (r : ℕ) : Type 0 where
   pub positive : 0 < r
   pub least : (q : ℕ) → 0 < q → IsAboveLanes I q → r ≤ q
 
--- The tree is one leaf, or that of a probe: it grew from the root leaf, within the budget.
+-- The tree is one leaf, or that of a probe: it grew from the root leaf, within the budget that each probe is given.
 abbrev pub IsTreeOfProbe : Instance → ℕ → Tree → Type 0
-IsTreeOfProbe I budget t = (nodes_of t ≡ 1) ⊎ ((at : ℕ) × IsGrownFrom (probed I at) None None (root_of (probed I at)) t × (nodes_of t ≤ budget + 1))
+IsTreeOfProbe I given t = (nodes_of t ≡ 1) ⊎ ((at : ℕ) × IsGrownFrom (probed I at) None None (root_of (probed I at)) t × (nodes_of t ≤ given + 1))
 
--- The search ended with an open probe at a cost: no plan's radius is below the low end, and the best plan that is known, if one is, has a radius of
--- at least the probe's cost. Without a plan the first probe ended it, whose cost is just above that of every lane, and of the best radius nothing is known.
-pub record IsOpenCenter (I : Instance) (budget low : ℕ) (plan : Option Plan) (tree : Tree) (at : ℕ) (probe : Tree) : Type 0 where
+-- The search ended with an open probe at a cost, which spent the budget that was left of the given one: no plan's radius is below the low end, and the best plan that is known, if one is,
+-- has a radius of at least the probe's cost. Without a plan the first probe ended it, whose cost is just above that of every lane, and of the best radius nothing is known.
+pub record IsOpenCenter (I : Instance) (given left low : ℕ) (plan : Option Plan) (tree : Tree) (at : ℕ) (probe : Tree) : Type 0 where
   pub shown : ShowsNoPlan (below_cost I low) tree
-  pub sized : IsTreeOfProbe I budget tree
+  -- an earlier probe was given the whole budget, too
+  pub sized : IsTreeOfProbe I given tree
   pub feasible : IfSome plan (IsFeasible I)
-  pub ended : IsOpenProbe (probed I at) budget probe
+  pub ended : IsOpenProbe (probed I at) left probe
   -- only capacities or the number of open sites make a probe hard
   pub hard : HasNoCaps I → HasFreeCount I → ⊥
   pub narrowed : low < at
   pub reach : MatchOption plan ((low ≡ 0) × IsJustAboveLanes I at) (λ P. at ≤ radius_of I P)
 
--- what each answer shows
-abbrev pub IsCenterAnswer : Instance → ℕ → CenterAnswer → Type 0
-IsCenterAnswer I budget (Best radius plan tree) = IsFeasible I plan × (radius ≡ radius_of I plan) × ShowsNoPlan (below_cost I radius) tree × IsTreeOfProbe I budget tree
-IsCenterAnswer I budget (Infeasible tree) = ShowsNoPlan I tree × IsTreeOfProbe I budget tree
-IsCenterAnswer I budget (Open low plan tree at probe) = IsOpenCenter I budget low plan tree at probe
+-- what each answer shows, where each probe is given this budget, and so much of it was left to one that stayed open
+abbrev pub IsCenterAnswer : Instance → ℕ → ℕ → CenterAnswer → Type 0
+IsCenterAnswer I given left (Best radius plan tree) = IsFeasible I plan × (radius ≡ radius_of I plan) × ShowsNoPlan (below_cost I radius) tree × IsTreeOfProbe I given tree
+IsCenterAnswer I given left (Infeasible tree) = ShowsNoPlan I tree × IsTreeOfProbe I given tree
+IsCenterAnswer I given left (Open low plan tree at probe) = IsOpenCenter I given left low plan tree at probe
 
 -- what each answer means for the plans of the instance, whatever shows it
 abbrev pub CenterHolds : Instance → CenterAnswer → Type 0

@@ -8,6 +8,7 @@ use Rattle.plan_search.specs.InBox.{HasNoCaps}
 use Rattle.tree_search.specs.Answer.{HasFreeCount}
 use Rattle.tree_search.specs.declared.answer.Answer.{Answer}
 use Rattle.tree_search.specs.declared.answer.Answer.TheVariants as answers
+use Rattle.watch_port.specs.Left.{IsBudgetLeft}
 use Rattle.plan_radius.specs.Radius.{radius_of}
 use Rattle.plan_radius.specs.Cheaper.{below_cost}
 use Rattle.center_solve.specs.declared.known.Known.{Known}
@@ -28,31 +29,25 @@ probe_in (answers.Optimal plan cost tree made) = Found plan
 probe_in (answers.Infeasible tree made) = Empty tree
 probe_in (answers.Bracket low plan tree made) = found_or_open plan tree
 
--- a plan of a smaller radius, or a tree that shows that there is none, or a search that stayed open
-abbrev pub IsProbeOf : Instance → ℕ → ℕ → Finding → Type 0
-IsProbeOf I at budget (Found plan) = IsFeasible I plan × (radius_of I plan < at)
-IsProbeOf I at budget (Empty tree) = ShowsNoPlan (below_cost I at) tree × IsTreeOfProbe I budget tree
-IsProbeOf I at budget (Open tree) = IsOpenProbe (probed I at) budget tree × (HasNoCaps I → HasFreeCount I → ⊥)
-
--- the probe came to an end
-abbrev pub IsClear : Finding → Type 0
-IsClear (Found plan) = Unit {0}
-IsClear (Empty tree) = Unit {0}
-IsClear (Open tree) = ⊥
+-- a plan of a smaller radius, or a tree that shows that there is none, or a search that stayed open and spent what was left of its budget
+abbrev pub IsProbeOf : Instance → ℕ → ℕ → ℕ → Finding → Type 0
+IsProbeOf I at given left (Found plan) = IsFeasible I plan × (radius_of I plan < at)
+IsProbeOf I at given left (Empty tree) = ShowsNoPlan (below_cost I at) tree × IsTreeOfProbe I given tree
+IsProbeOf I at given left (Open tree) = IsOpenProbe (probed I at) left tree × (HasNoCaps I → HasFreeCount I → ⊥)
 
 -- a plan with its radius, and a cost below which, as a tree shows, no plan's radius is
-pub record IsKnownSoFar (I : Instance) (budget : ℕ) (k : Known) : Type 0 where
+pub record IsKnownSoFar (I : Instance) (given : ℕ) (k : Known) : Type 0 where
   pub shown : ShowsNoPlan (below_cost I k.low) k.tree
-  pub sized : IsTreeOfProbe I budget k.tree
+  pub sized : IsTreeOfProbe I given k.tree
   pub feasible : IsFeasible I k.plan
   pub exact : k.radius ≡ radius_of I k.plan
 
 -- a step brings both ends nearer or ends the search
 abbrev pub IsStepFrom : Instance → ℕ → Known → Step → Type 0
-IsStepFrom I budget old (steps.On new) = IsKnownSoFar I budget new × (old.low ≤ new.low) × (new.radius ≤ old.radius) × (new.radius + old.low < old.radius + new.low)
-IsStepFrom I budget old (steps.Ends answer) = IsCenterAnswer I budget answer
+IsStepFrom I given old (steps.On new) = IsKnownSoFar I given new × (old.low ≤ new.low) × (new.radius ≤ old.radius) × (new.radius + old.low < old.radius + new.low)
+IsStepFrom I given old (steps.Ends sought) = IsCenterAnswer I given sought.budget sought.answer
 
--- the step didn't end the search
-abbrev pub IsGoingOn : Step → Type 0
-IsGoingOn (steps.On new) = Unit {0}
-IsGoingOn (steps.Ends answer) = ⊥
+-- where the step ends the search, so much of the budget is left as the watch let, which had said "enough" so often before and after
+abbrev pub LeavesBudget : (given before after : ℕ) → Step → Type 0
+LeavesBudget given before after (steps.On new) = Unit {0}
+LeavesBudget given before after (steps.Ends sought) = IsBudgetLeft given sought.budget before after

@@ -26,3 +26,11 @@ pub enum CenterAnswer {
         probe: Tree,
     },
 }
+
+/// What a search for a center came to, and with which budget of nodes: the one given or, where the last probe stayed
+/// open because the watch said "enough", the lesser one that this probe spent.
+#[derive(Drop)]
+pub struct Sought {
+    pub answer: CenterAnswer,
+    pub budget: u32,
+}

@@ -1,18 +1,21 @@
 //! What is known of the best radius between two probes.
-ghost use Rattle.std.specs.Prelude.{◌≡◌, ◌+◌, ◌^◌, ◌<◌, ◌≤◌, Some, IfOk};
+ghost use Rattle.std.specs.Prelude.{◌≡◌, ◌<◌, ◌≤◌, Some, IfOk};
 ghost use Rattle.location_terms.specs.Instance.{IsValid};
-ghost use Rattle.tree_search.specs.Answer.{IsWithin, most_decisions};
+ghost use Rattle.tree_search.specs.Answer.{IsWithin};
+ghost use Rattle.watch_port.specs.Left.{IsBudgetLeft};
 ghost use Rattle.center_solve.specs.declared.answer.CenterAnswer.TheVariants.{Best, Open};
-ghost use Rattle.center_solve.specs.Center.{IsCenterAnswer, HasEndedSearch};
-ghost use Rattle.center_solve.specs.Probing.{IsKnownSoFar, IsStepFrom, IsGoingOn};
+ghost use Rattle.center_solve.specs.Center.{IsCenterAnswer};
+ghost use Rattle.center_solve.specs.Probing.{IsKnownSoFar, IsStepFrom, LeavesBudget};
 
-use crate::CenterAnswer;
 use crate::probe::{Finding, probe};
+use crate::{CenterAnswer, Sought};
 use instance_store::{Instance, NoMemory};
 use plan_meaning::Plan;
 use plan_radius::radius_of;
+use solver_port::Solver;
 use std::alloc::Global;
 use tree_search::Tree;
+use watch_port::{Progress, Watch};
 
 /// A feasible plan with its radius, and a cost below which, as the tree shows, no plan's radius is.
 #[derive(Drop)]
@@ -29,57 +32,90 @@ pub(crate) enum Step {
     /// The two ends are nearer.
     On(Known),
     /// The probe stayed open.
-    Ends(CenterAnswer),
+    Ends(Sought),
 }
 
 /// Narrows the two ends, probe by probe, until they meet or a probe stays open. `costs` are the costs of the
 /// lanes, which rise. It fails only where memory runs out.
-pub(crate) fn narrowed(
+pub(crate) fn narrowed<S: Solver, W: Watch>(
     alloc: Global,
     inst: &Instance,
     costs: &[u64],
     known: Known,
     budget: u32,
-) -> Result<CenterAnswer, NoMemory>
+    solver: &mut S,
+    watch: &mut W,
+) -> Result<Sought, NoMemory>
     requires within { IsWithin inst.now budget }
     requires valid { IsValid inst.now }
     requires known { IsKnownSoFar inst.now budget known }
-    ensures answer { IfOk result (IsCenterAnswer inst.now budget) }
-    ensures settled { 2 ^ (most_decisions inst.now + 1) ≤ budget → IfOk result HasEndedSearch }
+    ensures answer { IfOk result (λ s. IsCenterAnswer inst.now budget s.budget s.answer) }
+    ensures left { IfOk result (λ s. IsBudgetLeft budget s.budget (W.enoughs watch.old) (W.enoughs watch.new)) }
+    ensures counts { W.enoughs watch.old ≤ W.enoughs watch.new }
 {
     let mut known = known;
     'probes: while known.low < known.radius {
-        match narrow(alloc, inst, costs, known, budget)? {
+        match narrow(alloc, inst, costs, known, budget, solver, watch)? {
             Step::On(nearer) => known = nearer,
-            Step::Ends(answer) => return Ok(answer),
+            Step::Ends(sought) => return Ok(sought),
         }
     }
-    Ok(best(known))
+    Ok(Sought {
+        answer: best(known),
+        budget,
+    })
 }
 
 // One probe between the two ends.
-fn narrow(
+fn narrow<S: Solver, W: Watch>(
     alloc: Global,
     inst: &Instance,
     costs: &[u64],
     known: Known,
     budget: u32,
+    solver: &mut S,
+    watch: &mut W,
 ) -> Result<Step, NoMemory>
     requires within { IsWithin inst.now budget }
     requires valid { IsValid inst.now }
     requires known { IsKnownSoFar inst.now budget known }
     requires apart { known.low < known.radius }
     ensures step { IfOk result (IsStepFrom inst.now budget known) }
-    ensures on { 2 ^ (most_decisions inst.now + 1) ≤ budget → IfOk result IsGoingOn }
+    ensures left { IfOk result (LeavesBudget budget (W.enoughs watch.old) (W.enoughs watch.new)) }
+    ensures counts { W.enoughs watch.old ≤ W.enoughs watch.new }
 {
     let at = middle(costs, known.low, known.radius);
-    match probe(alloc, inst, at, budget)? {
+    let allowed = allowance(known.low, known.radius, budget, watch);
+    let end = probe(alloc, inst, at, allowed, solver, watch)?;
+    let left = end.budget;
+    let finding = end.finding;
+    match finding {
         Finding::Found(plan) => {
             let radius = radius_of(inst, &plan);
             Ok(Step::On(with_plan(known, radius, plan)))
         }
         Finding::Empty(tree) => Ok(Step::On(with_low(known, at, tree))),
-        Finding::Open(tree) => Ok(Step::Ends(stopped(known, at, tree))),
+        Finding::Open(tree) => Ok(Step::Ends(Sought {
+            answer: stopped(known, at, tree),
+            budget: left,
+        })),
+    }
+}
+
+// How much of the budget a probe may spend between two such ends: all of it or, once the watch says "enough", too
+// little for a split.
+fn allowance<W: Watch>(low: u64, radius: u64, budget: u32, watch: &mut W) -> u32
+    ensures { IsBudgetLeft budget result (W.enoughs watch.old) (W.enoughs watch.new) }
+{
+    let progress = Progress {
+        nodes: 0,
+        low: Some(low),
+        best: Some(radius),
+    };
+    if watch.is_enough(progress) {
+        budget.min(1)
+    } else {
+        budget
     }
 }
 

@@ -1,24 +1,23 @@
 //! Centers and the cost curve: the plan whose farthest customer is as near as can be, and what each number of
-//! warehouses costs. The definitions are in `specs/`.
+//! warehouses costs. What solves an instance is handed in, and so is the watch that may say when to stop. The
+//! definitions are in `specs/`.
 #![tactic(auto)]
 
 mod answer;
 mod counted;
-mod former;
+mod fresh;
 mod greatest;
-mod hint;
 mod known;
 mod lane_costs;
-mod near;
 mod probe;
 mod ray;
 mod reach;
-mod searched;
 mod seeking;
 
-pub use answer::CenterAnswer;
-pub use counted::{curve, curve_from, with_exact_count};
-pub use hint::Hint;
+pub use answer::{CenterAnswer, Sought};
+pub use counted::{curve_entry, with_exact_count};
 pub use plan_radius::{below_cost, radius_of};
 pub use seeking::center;
+pub use solver_port::{Solved, Solver};
 pub use tree_search::{Answer, Instance, NoMemory, Plan, Tree};
+pub use watch_port::Watch;

@@ -1,16 +1,19 @@
 //! One question of the search for a center: does some feasible plan have a radius below a cost?
-ghost use Rattle.std.specs.Prelude.{◌≡◌, ◌+◌, ◌^◌, ◌≤◌, IfOk};
+ghost use Rattle.std.specs.Prelude.{◌≡◌, ◌≤◌, IfOk};
 ghost use Rattle.location_terms.specs.Instance.{IsValid};
-ghost use Rattle.tree_search.specs.Answer.{IsWithin, most_decisions};
+ghost use Rattle.tree_search.specs.Answer.{IsWithin};
+ghost use Rattle.watch_port.specs.Left.{IsBudgetLeft};
 ghost use Rattle.center_solve.specs.Center.{probed};
-ghost use Rattle.center_solve.specs.Probing.{found_or_open, probe_in, IsProbeOf, IsClear};
+ghost use Rattle.center_solve.specs.Probing.{found_or_open, probe_in, IsProbeOf};
 
-use crate::searched::searched_freely;
+use crate::fresh::solved_afresh;
 use instance_store::{Instance, NoMemory};
 use plan_meaning::Plan;
 use plan_radius::{below_cost, clear_costs};
+use solver_port::{Aim, Solver};
 use std::alloc::Global;
 use tree_search::{Answer, Tree};
+use watch_port::Watch;
 
 /// What a probe found.
 #[derive(Drop)]
@@ -23,21 +26,43 @@ pub(crate) enum Finding {
     Open(Tree),
 }
 
+/// What a probe found, and what the watch left of its budget.
+#[derive(Drop)]
+pub(crate) struct ProbeEnd {
+    pub(crate) finding: Finding,
+    pub(crate) budget: u32,
+}
+
 /// Searches for a feasible plan with a radius below `at`, in millionths. It fails only where memory runs out.
-pub(crate) fn probe(
+pub(crate) fn probe<S: Solver, W: Watch>(
     alloc: Global,
     inst: &Instance,
     at: u64,
     budget: u32,
-) -> Result<Finding, NoMemory>
+    solver: &mut S,
+    watch: &mut W,
+) -> Result<ProbeEnd, NoMemory>
     requires within { IsWithin inst.now budget }
     requires valid { IsValid inst.now }
-    ensures found { IfOk result (IsProbeOf inst.now at budget) }
-    ensures clear { 2 ^ (most_decisions inst.now + 1) ≤ budget → IfOk result IsClear }
+    ensures found { IfOk result (λ e. IsProbeOf inst.now at budget e.budget e.finding) }
+    ensures left { IfOk result (λ e. IsBudgetLeft budget e.budget (W.enoughs watch.old) (W.enoughs watch.new)) }
+    ensures counts { W.enoughs watch.old ≤ W.enoughs watch.new }
 {
     let free = probe_instance(alloc, inst, at)?;
-    let answer = searched_freely(alloc, &free, budget)?;
-    Ok(probe_of(answer))
+    let nothing: Option<S::Kept> = None;
+    let solved = solved_afresh(
+        alloc,
+        &free,
+        nothing.as_ref(),
+        Aim::AnyPlan,
+        budget,
+        solver,
+        watch,
+    )?;
+    Ok(ProbeEnd {
+        finding: probe_of(solved.answer),
+        budget: solved.budget,
+    })
 }
 
 // The instance that a probe searches.

@@ -2,7 +2,7 @@
 use Rattle.std.proofs.Common.{◌≡◌, ℕ, List, [], ◌++◌, None, Some, Result, Ok, Err, refl, ◌∙◌, subst, inl, inr, arith}
 use Rattle.std.specs.Prelude.{IfOk, IfErr}
 use Rattle.shelf_port.specs.Files.{NeverFalls, Rose}
-use Rattle.shelf_port.specs.Ports.{ShelfState, SinkState, Ports, ports_of}
+use Rattle.shelf_port.specs.Ports.{ShelfState, SinkState}
 use Rattle.fixed_cost.specs.declared.fault.FileFault.{FileFault}
 use Rattle.location_terms.specs.Instance.{Instance}
 use Rattle.instance_forms.specs.Forms.{InstanceFile}
@@ -11,6 +11,7 @@ use Rattle.whatif_session.specs.Input.{session_limits}
 use Rattle.whatif_session.specs.Run.{Stop, AtEnd, AtLongLine, AtLongInput, AtFailedRead, OutOfMemory, AtRefusedWrite}
 use Rattle.dualoc_cli.specs.declared.halt.Halt.{Halt}
 use Rattle.dualoc_cli.specs.declared.halt.Halt.TheVariants as halt
+use Rattle.dualoc_cli.specs.Run.{Outside, outside_of}
 use Rattle.dualoc_cli.proofs.Gaining.{none_gained}
 use Rattle.desk_session.specs.State.{KeeperState}
 use Rattle.desk_cli.specs.declared.reply.DeskReply.{DeskReply}
@@ -22,12 +23,13 @@ use Rattle.desk_cli.specs.Due.{RunOfDesk, run_of_desk, IsDeskRow, IsDeskUnbegun,
 use Rattle.desk_cli.specs.Talk.{IsEndedDesk, IsHaltedDesk, once_printed, ComesToDesk, RunsOutAtDesk, DeskReplied, DeskHalted}
 
 -- a desk that began behind the reading of the file began on what the run found
-begun_before : (I : Instance) (before mid : ShelfState) (keeper : KeeperState) → mid.files ≡ before.files → NeverFalls before.writes mid.writes → {first : _} → IsDeskBegun I mid keeper first → IsDeskBegun I before keeper first
-begun_before I before mid keeper same since {first} begun =
+begun_before : (I : Instance) (before mid : ShelfState) (heard : ℕ) (keeper : KeeperState) → mid.files ≡ before.files → NeverFalls before.writes mid.writes → {first : _} → IsDeskBegun I mid heard keeper first → IsDeskBegun I before heard keeper first
+begun_before I before mid heard keeper same since {first} begun =
     record {
       session_is = begun.session_is;
       lines_are = begun.lines_are;
       files_are = begun.files_are ∙ same;
+      heard_is = begun.heard_is;
       keeper_is = begun.keeper_is;
       writes = λ name. omega (arith, since name, begun.writes name);
     }
@@ -41,15 +43,15 @@ caused r reply row AtFailedRead is held = let same : InputFailed ≡ reply = cc 
 caused r reply row OutOfMemory is held = absurd cc
 caused r reply row AtRefusedWrite is held = absurd cc
 
-module _ (words : List (List ℕ)) (old : Ports) (keeper : KeeperState) where
+module _ (words : List (List ℕ)) (old : Outside) (keeper : KeeperState) where
   -- Before the first line.
 
   module _ (shelf : ShelfState) (same : shelf.files ≡ old.shelf.files) (later : SinkState) where
     abbrev early : RunOfDesk
-    early = run_of_desk words old (once_printed (ports_of shelf old.input old.output) later) keeper keeper
+    early = run_of_desk words old (once_printed (outside_of shelf old.input old.output old.heard) later) keeper keeper
 
     unbegun : IsDeskUnbegun early
-    unbegun = record { files = same; input = refl; keeper = refl }
+    unbegun = record { files = same; input = refl; unheard = refl; keeper = refl }
 
     pub no_row : RunsOutAtDesk early old.output
     no_row = record { row = []; row_is = inl (unbegun, refl); gains = none_gained old.output }
@@ -69,15 +71,15 @@ module _ (words : List (List ℕ)) (old : Ports) (keeper : KeeperState) where
 
   -- A desk that was held.
 
-  module _ (shelf : ShelfState) (new : Ports) (keeper_new : KeeperState) (same : shelf.files ≡ old.shelf.files) (since : NeverFalls old.shelf.writes shelf.writes)
+  module _ (shelf : ShelfState) (new : Outside) (keeper_new : KeeperState) (same : shelf.files ≡ old.shelf.files) (since : NeverFalls old.shelf.writes shelf.writes)
       (file : InstanceFile) (named : desk_file words ≡ Some file) (I : Instance) (means : HasMeaning old.shelf.files file (Ok I)) where
-    abbrev from : Ports
-    from = ports_of shelf old.input old.output
+    abbrev from : Outside
+    from = outside_of shelf old.input old.output old.heard
 
     abbrev whole : SinkState → RunOfDesk
     whole later = run_of_desk words old (once_printed new later) keeper keeper_new
 
-    row_in : (later : SinkState) (stop : Stop) (row : List ℕ) → DeskRun session_limits I shelf new.shelf old.input new.input keeper keeper_new stop row → IsDeskRow (whole later) stop row
+    row_in : (later : SinkState) (stop : Stop) (row : List ℕ) → DeskRun session_limits I shelf new.shelf old.input new.input old.heard new.heard keeper keeper_new stop row → IsDeskRow (whole later) stop row
     row_in later stop row run =
         record {
           instance = I;
@@ -89,10 +91,11 @@ module _ (words : List (List ℕ)) (old : Ports) (keeper : KeeperState) where
             stops = run.stops;
             first = run.first;
             last = run.last;
-            begins = begun_before I old.shelf shelf keeper same since run.begins;
+            begins = begun_before I old.shelf shelf old.heard keeper same since run.begins;
             steps = run.steps;
             in_order = run.in_order;
             writes = run.writes;
+            heard_last = run.heard_last;
             faults = run.faults;
             files_after = run.files_after;
             table_after = run.table_after;

@@ -3,13 +3,13 @@
 use Rattle.std.specs.Prelude.{◌≡◌, ◌⊎◌, ℕ, List, [], ◌++◌, Option, None, Some, Ok, Err, codes}
 use Rattle.shelf_port.specs.Files.{Files, Rose}
 use Rattle.shelf_port.specs.Streams.{with_back}
-use Rattle.shelf_port.specs.Ports.{Ports}
 use Rattle.location_terms.specs.Instance.{Instance}
 use Rattle.instance_forms.specs.Forms.{InstanceFile}
 use Rattle.instance_forms.specs.Reading.{HasMeaning, IsLong}
 use Rattle.whatif_session.specs.Input.{session_limits}
 use Rattle.whatif_session.specs.Run.{Stop, AtEnd, AtLongLine, AtLongInput, AtFailedRead, AtRefusedWrite, IsDueStop}
 use Rattle.dualoc_cli.specs.Status.{when_cut}
+use Rattle.dualoc_cli.specs.Run.{Outside}
 use Rattle.dualoc_cli.specs.Session.{stop_status}
 use Rattle.dualoc_cli.specs.declared.status.Status.{Status}
 use Rattle.dualoc_cli.specs.Due.{PrintsFront, IsPrinted}
@@ -24,15 +24,15 @@ use Rattle.desk_cli.specs.Status.{session_status}
 use Rattle.desk_cli.specs.Reply.{desk_status, desk_text}
 use Rattle.desk_cli.specs.Held.{DeskRun, RepliesLastAtDesk}
 
--- the words of a run, and what its ports and its keeper tell and count at its start and at its end
+-- the words of a run, and what is outside of it and what its keeper tells and counts, at its start and at its end
 pub record RunOfDesk : Type 0 where
   pub words : List (List ℕ)
-  pub before : Ports
-  pub after : Ports
+  pub before : Outside
+  pub after : Outside
   pub keeper : KeeperState
   pub keeper_after : KeeperState
 
-abbrev pub run_of_desk : List (List ℕ) → Ports → Ports → KeeperState → KeeperState → RunOfDesk
+abbrev pub run_of_desk : List (List ℕ) → Outside → Outside → KeeperState → KeeperState → RunOfDesk
 run_of_desk words before after keeper keeper_after = record { words = words; before = before; after = after; keeper = keeper; keeper_after = keeper_after }
 
 -- The causes.
@@ -49,15 +49,16 @@ HasDesk r I = OfDeskFile r (λ file. HasMeaning r.before.shelf.files file (Ok I)
 pub record IsDeskRow (r : RunOfDesk) (stop : Stop) (row : List ℕ) : Type 0 where
   pub instance : Instance
   pub on : HasDesk r instance
-  pub run : DeskRun session_limits instance r.before.shelf r.after.shelf r.before.input r.after.input r.keeper r.keeper_after stop row
+  pub run : DeskRun session_limits instance r.before.shelf r.after.shelf r.before.input r.after.input r.before.heard r.after.heard r.keeper r.keeper_after stop row
 
 abbrev pub HoldsDesk : RunOfDesk → Type 0
 HoldsDesk r = (stop : Stop) × (row : List ℕ) × IsDeskRow r stop row
 
--- no line of the input was read: files, input and scenarios are as before
+-- no line of the input was read: files, input and scenarios are as before, and the watch said nothing
 pub record IsDeskUnbegun (r : RunOfDesk) : Type 0 where
   pub files : r.after.shelf.files ≡ r.before.shelf.files
   pub input : r.after.input ≡ r.before.input
+  pub unheard : r.after.heard ≡ r.before.heard
   pub keeper : r.keeper_after ≡ r.keeper
 
 -- what the words and the file that they name settle before the first line

@@ -1,5 +1,5 @@
 //! The desk: sessions on one instance after another, with the edits of each kept under names, over any
-//! shelf, keeper of scenarios, input and output.
+//! solver, shelf, keeper of scenarios, input, output and watch.
 //!
 //! `desk` reads the instance that its words name, answers the lines of the input one after another, and
 //! prints how it ended. Its contract says so: `specs/Due.antt` is the page to read.

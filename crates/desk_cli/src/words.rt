@@ -22,6 +22,7 @@ pub fn desk_file(words: &[String]) -> Option<InstanceFile<'_>>
     let takes = Takes {
         budget: false,
         count: false,
+        limits: false,
     };
     let options = Options::of(takes, options)?;
     InstanceFile::of(form.as_str(), file, options.capacity)

@@ -51,9 +51,9 @@ fn goes_on_where_the_keeper_fails(rt: HostRuntime) -> Result<(), Fail> {
 
 fn refuses_words(alloc: Global) -> Result<bool, Fail> {
     let lines =
-        "keep\nkeep a b\nkeep a.b\nnames a\nKeep a\nload\n\nkeep A-1_z\nnames\nquit\nnames\n";
+        "keep\nkeep a b\nkeep a.b\nnames a\nKeep a\nload\nlimit seconds=0\n\nlimit seconds=5\nkeep A-1_z\nnames\nquit\nnames\n";
     let replies =
-        "refused BadCommand\nrefused BadCommand\nrefused BadCommand\nrefused BadCommand\nrefused BadCommand\nrefused BadCommand\nok\nname A-1_z edits 0\nend\n";
+        "refused BadCommand\nrefused BadCommand\nrefused BadCommand\nrefused BadCommand\nrefused BadCommand\nrefused BadCommand\nrefused BadCommand\nok\nok\nname A-1_z edits 0\nend\n";
     Ok(on_two_sites(0, lines, replies).is_met(alloc, Calls::sound(7))?)
 }
 

@@ -4,7 +4,9 @@ ghost use Rattle.std.specs.Prelude.{◌<◌};
 use desk_cli::{DeskStatus, desk};
 use memory_runs::{Calls, shelf_of, sink_of, source_of, words_of};
 use scenario_keeper::{Keeper, MapKeeper};
+use solver_port::PlainSolver;
 use std::alloc::{AllocError, Global};
+use watch_port::NoWatch;
 
 /// What words, with one space between two, must come to over one file, by name and text, and over this input, where the
 /// keeper's call of this number fails, or none where the number is 0: how the run ends, and what it prints.
@@ -41,7 +43,16 @@ impl<'a> Row<'a> {
         let mut shelf = shelf_of(alloc, &[(name, text)], calls)?;
         let mut input = source_of(alloc, self.input.as_bytes(), calls)?;
         let mut out = sink_of(alloc, calls)?;
-        let status = desk(alloc, &words, &mut shelf, keeper, &mut input, &mut out);
+        let status = desk(
+            alloc,
+            &words,
+            PlainSolver,
+            &mut shelf,
+            keeper,
+            &mut input,
+            &mut out,
+            &mut NoWatch,
+        );
         Ok(
             status == self.status
                 && out.written() == self.text.as_bytes()

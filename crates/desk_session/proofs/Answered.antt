@@ -48,9 +48,9 @@ pub gone : (told : Option Table) (name : List ℕ) → SaysWhether told name fal
 gone None name absent = refl
 gone (Some table) name absent = ap Some (still table name absent)
 
-module _ (desk : DeskView) (before after : KeeperState) (shelf : ShelfState) where
+module _ (desk : DeskView) (before after : KeeperState) (shelf : ShelfState) (heard : ℕ) where
   -- the desk stays, and this is said
-  pub tells : (text : List ℕ) (told : Option Table) (reply : Replied) → reply ≡ says text → after.table ≡ told → TellsAtDesk text told (desk_at desk shelf before) reply.text (desk_at desk shelf after)
+  pub tells : (text : List ℕ) (told : Option Table) (reply : Replied) → reply ≡ says text → after.table ≡ told → TellsAtDesk text told (desk_at desk shelf before heard) reply.text (desk_at desk shelf after heard)
   tells text told reply is table = record { reply_is = λ i. (is i).text; moment_is = refl; lines_are = refl; table_is = table }
 
 module _ {E : Type 0} (desk : DeskView) (before after : KeeperState) (counts : before.faults ≤ after.faults) where
@@ -62,7 +62,7 @@ module _ {E : Type 0} (desk : DeskView) (before after : KeeperState) (counts : b
       → IsAsked {E = E} (Keep name) desk before (Ok reply) desk after
   kept name what reply is whole table = record {
     outcome = record {
-      does = λ shelf. inl (tells desk before after shelf ok_text (with_scenario before.table name (scenario_of desk.session.state desk.lines)) reply is (table ∙ ap (with_scenario before.table name) whole));
+      does = λ shelf heard. inl (tells desk before after shelf heard ok_text (with_scenario before.table name (scenario_of desk.session.state desk.lines)) reply is (table ∙ ap (with_scenario before.table name) whole));
       ended = λ i. (is i).ended;
       serial = omega arith;
     };
@@ -74,7 +74,7 @@ module _ {E : Type 0} (desk : DeskView) (before after : KeeperState) (counts : b
   absent name (Err e) is unknown table = out_of_memory (Forget name) e (table ∙ gone before.table name unknown)
   absent name (Ok reply) is unknown table = record {
     outcome = record {
-      does = λ shelf. inl (false, unknown, tells desk before after shelf (desk_refusal_text NoScenario) before.table reply is (table ∙ gone before.table name unknown));
+      does = λ shelf heard. inl (false, unknown, tells desk before after shelf heard (desk_refusal_text NoScenario) before.table reply is (table ∙ gone before.table name unknown));
       ended = λ i. (is i).ended;
       serial = omega arith;
     };
@@ -83,16 +83,16 @@ module _ {E : Type 0} (desk : DeskView) (before after : KeeperState) (counts : b
 
 -- A scenario that is found.
 module _ (old new : DeskView) (before after : KeeperState) (table : after.table ≡ before.table) where
-  taken_up : (lines : List (List ℕ)) (due : Result SessionView ℕ) (reply : Replied) → HasTakenUp lines due old reply new → (shelf : ShelfState) → TakesUp lines due (desk_at old shelf before) reply.text (desk_at new shelf after)
-  taken_up lines (Ok session) reply done shelf = record {
+  taken_up : (lines : List (List ℕ)) (due : Result SessionView ℕ) (reply : Replied) → HasTakenUp lines due old reply new → (shelf : ShelfState) (heard : ℕ) → TakesUp lines due (desk_at old shelf before heard) reply.text (desk_at new shelf after heard)
+  taken_up lines (Ok session) reply done shelf heard = record {
     reply_is = λ i. (done.0 i).text;
-    moment_is = λ i. (desk_at (done.1 i) shelf after).moment;
+    moment_is = λ i. (desk_at (done.1 i) shelf after heard).moment;
     lines_are = λ i. (done.1 i).lines;
     table_is = table;
   }
-  taken_up lines (Err line) reply done shelf = record {
+  taken_up lines (Err line) reply done shelf heard = record {
     reply_is = λ i. (done.0 i).text;
-    moment_is = λ i. (desk_at (done.1 i) shelf after).moment;
+    moment_is = λ i. (desk_at (done.1 i) shelf after heard).moment;
     lines_are = λ i. (done.1 i).lines;
     table_is = table;
   }
@@ -113,7 +113,7 @@ module _ {E : Type 0} (old new : DeskView) (before after : KeeperState) (counts 
   taken name scenario (Err e) finds done kept = record { outcome = (kept, table); counts = counts }
   taken name scenario (Ok reply) finds done kept = record {
     outcome = record {
-      does = λ shelf. inl (Some scenario, finds, taken_up old new before after table scenario.edits (loaded scenario) reply done shelf);
+      does = λ shelf heard. inl (Some scenario, finds, taken_up old new before after table scenario.edits (loaded scenario) reply done shelf heard);
       ended = ended (loaded scenario) done;
       serial = few old new scenario (loaded scenario) reply refl done;
     };

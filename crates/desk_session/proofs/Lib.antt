@@ -7,4 +7,5 @@ mod Reloads
 mod Settled
 mod Steps
 mod Stepping
+mod TakenUp
 pub mod Quitting

@@ -9,7 +9,7 @@ use Rattle.edit_history.specs.History.{HeldEdit}
 use Rattle.scenario_keeper.specs.Scenario.{Scenario}
 use Rattle.session_lines.specs.Lines.{line_edit, session_line}
 use Rattle.whatif_session.specs.declared.limits.TheConstants.{MAX_EDITS}
-use Rattle.whatif_session.specs.State.{SessionState, SessionView}
+use Rattle.whatif_session.specs.State.{SessionState, SessionView, with_limits}
 use Rattle.desk_session.specs.Lines.{KeeperLine, Keep, Load, Forget, Names, keeper_line}
 use Rattle.desk_session.specs.Loaded.{loaded}
 use Rattle.desk_session.specs.Reloaded.{CanBeLoaded}
@@ -40,7 +40,9 @@ module _ (old : DeskMoment) (line reply : List ℕ) (new : DeskMoment) (can : Ca
       record { valid = subst IsValid (sym led.base) can.valid; few = few_after (line_edit line) old.moment.session.edits new.moment.session.edits can.few led.edits }
 
   takes_up : (lines : List (List ℕ)) (due : Result SessionView ℕ) → ((session : SessionView) → due ≡ Ok session → CanBeLoaded session.state) → TakesUp lines due old reply new → CanBeLoaded new.moment.session
-  takes_up lines (Ok session) read done = becomes session.state done.moment_is (read session refl)
+  takes_up lines (Ok session) read done =
+      let can = read session refl in
+      becomes (with_limits session.state old.moment.session.in_force) done.moment_is record { valid = can.valid; few = can.few }
   takes_up lines (Err n) read done = becomes old.moment.session done.moment_is can
 
   loads : (found : Option Scenario) → Loads found old reply new → CanBeLoaded new.moment.session

@@ -12,10 +12,10 @@ use Rattle.desk_session.specs.State.{AreLinesOf, lines_after, scenario_of}
 use Rattle.desk_session.specs.Done.{with_edits}
 use Rattle.desk_session.proofs.Steps.{Leads, leads, follow}
 
-module _ {E : Type 0} (line : List ℕ) (old new : SessionView) (before after : ShelfState) where
+module _ {E : Type 0} (line : List ℕ) (old new : SessionView) (before after : ShelfState) (heard heard_after : ℕ) where
   -- a step leads on, and so does a line for which memory ran out
-  pub led_on : (r : Result Replied E) → IfOk r (λ reply. SessionStep (moment_at old.state before) line reply.text (moment_at new.state after)) → OnErr r (new ≡ old) → Leads (line_edit line) old.state new.state
-  led_on (Ok reply) step kept = leads (moment_at old.state before) reply.text (moment_at new.state after) step.instance (session_line line) step.does
+  pub led_on : (r : Result Replied E) → IfOk r (λ reply. SessionStep (moment_at old.state before heard) line reply.text (moment_at new.state after heard_after)) → OnErr r (new ≡ old) → Leads (line_edit line) old.state new.state
+  led_on (Ok reply) step kept = leads (moment_at old.state before heard) reply.text (moment_at new.state after heard_after) step.instance (session_line line) step.does
   led_on (Err e) step kept = record { base = λ i. (kept i).state.base; edits = inl (λ i. (kept i).state.edits) }
 
 module _ (line : List ℕ) (old new : SessionState) (kept settled : Scenario) (count counted : ℕ) (led : Leads (line_edit line) old new) (before : count ≡ length old.edits) (after : counted ≡ length new.edits)

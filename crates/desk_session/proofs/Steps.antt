@@ -10,7 +10,7 @@ use Rattle.instance_edits.specs.declared.edit.EditFault.{EditFault}
 use Rattle.instance_edits.specs.Edits.{edited}
 use Rattle.edit_history.specs.History.{HeldEdit}
 use Rattle.session_lines.specs.declared.fault.SessionFault.TheVariants as fault
-use Rattle.session_lines.specs.Lines.{SessionLine, Blank, TakeBack, Quit, Show, Change, Solve, Save, Cert, change_in, line_edit}
+use Rattle.session_lines.specs.Lines.{SessionLine, Blank, TakeBack, Quit, Show, Change, Solve, Limit, Save, Cert, change_in, line_edit}
 use Rattle.tree_search.specs.Budget.{budget_in, max_budget}
 use Rattle.whatif_session.specs.declared.limits.TheConstants.{MAX_EDITS}
 use Rattle.whatif_session.specs.State.{SessionState, standing_answer}
@@ -69,7 +69,7 @@ module _ (old : Moment) (reply : List ℕ) (new : Moment) where
 
   solved : (I : Instance) (budget : ℕ) (large : Bool) → MatchBool large (IsReplied (Err fault.BudgetTooLarge) old reply new) (Solves I budget old reply new) → LeadsOn None
   solved I budget true done = same None old.session new.session done.left
-  solved I budget false done = record { base = λ i. (done.replies.left i).base; edits = inl (λ i. (done.replies.left i).edits) }
+  solved I budget false done = record { base = λ i. (done.left i).base; edits = inl (λ i. (done.left i).edits) }
 
   -- what a line does leads on so
   pub leads : (I : Instance) (line : Option SessionLine) → Does I line old reply new → LeadsOn (option_and_then change_in line)
@@ -79,6 +79,7 @@ module _ (old : Moment) (reply : List ℕ) (new : Moment) where
   leads I (Some (Change e)) done = changed e (nat_le MAX_EDITS (length old.session.edits)) I (edited I e) refl done
   leads I (Some TakeBack) done = undone old.session.edits refl done
   leads I (Some (Solve given)) done = solved I (budget_in I given) (nat_lt (max_budget I) (budget_in I given)) done
+  leads I (Some (Limit limits)) done = record { base = λ i. (done.left i).base; edits = inl (λ i. (done.left i).edits) }
   leads I (Some (Show form)) done = shown (standing_answer old.session) done
     where
       shown : (answer : _) → ShowsAnswer I form answer old reply new → LeadsOn None

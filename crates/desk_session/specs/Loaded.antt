@@ -40,6 +40,6 @@ begun_with (Err fault) = Err 0
 abbrev pub based_on : List ℕ → Result SessionView ℕ
 based_on base = if nat_lt MAX_INSTANCE_BYTES (length base) then Err 0 else begun_with (own_meaning base)
 
--- the session that holds the edits of a scenario on its base, or the number of the first line that is no edit or is refused: 0 for the base
+-- the session that holds the edits of a scenario on its base, with no limits yet, or the number of the first line that is no edit or is refused: 0 for the base
 abbrev pub loaded : Scenario → Result SessionView ℕ
 loaded scenario = fold held_next (based_on scenario.base) scenario.edits

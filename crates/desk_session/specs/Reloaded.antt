@@ -6,7 +6,7 @@ use Rattle.edit_history.specs.History.{HeldEdit}
 use Rattle.scenario_keeper.specs.Table.{Table}
 use Rattle.session_lines.specs.Replies.{ok_text}
 use Rattle.whatif_session.specs.declared.limits.TheConstants.{MAX_EDITS}
-use Rattle.whatif_session.specs.State.{SessionState, begun_session}
+use Rattle.whatif_session.specs.State.{SessionState, begun_session, with_limits}
 use Rattle.desk_session.specs.Lines.{Keep, Load, keeper_line}
 use Rattle.desk_session.specs.Replies.{loaded_text}
 use Rattle.desk_session.specs.State.{DeskMoment}
@@ -16,7 +16,7 @@ use Rattle.desk_session.specs.Step.{DeskStep, LeavesAtDesk}
 abbrev pub without_serial : HeldEdit → HeldEdit
 without_serial held = record held { serial = None }
 
--- the session without its solves: its base, and its edits in force
+-- the session without its solves and its limits: its base, and its edits in force
 abbrev pub without_solves : SessionState → SessionState
 without_solves session = record (begun_session session.base) { edits = map without_serial session.edits }
 
@@ -40,6 +40,6 @@ pub record IsKeptAndLoaded (old kept later : DeskMoment) (reply : List ℕ) (new
   pub told_later : later.keeper.table ≡ Some table_later
   pub stands : get table_later name ≡ get table name
 
--- the other desk goes on with what was kept: its reply counts the edits, and files and scenarios stay
+-- the other desk goes on with what was kept, under its own limits: its reply counts the edits, and files and scenarios stay
 abbrev pub TakesUpKept : (old later : DeskMoment) → List ℕ → DeskMoment → Type 0
-TakesUpKept old later reply new = LeavesAtDesk (loaded_text (length old.lines)) (without_solves old.moment.session) old.lines later.keeper.table later reply new
+TakesUpKept old later reply new = LeavesAtDesk (loaded_text (length old.lines)) (with_limits (without_solves old.moment.session) later.moment.session.in_force) old.lines later.keeper.table later reply new

@@ -46,6 +46,6 @@ pub record DeskMoment : Type 0 where
   pub lines : List (List ℕ)
   pub keeper : KeeperState
 
--- a desk over a shelf and a keeper in these states
-abbrev pub desk_at : DeskView → ShelfState → KeeperState → DeskMoment
-desk_at desk shelf keeper = record { moment = moment_at desk.session.state shelf; lines = desk.lines; keeper = keeper }
+-- a desk over a shelf and a keeper in these states, with a watch that said "enough" so often
+abbrev pub desk_at : DeskView → ShelfState → KeeperState → (heard : ℕ) → DeskMoment
+desk_at desk shelf keeper heard = record { moment = moment_at desk.session.state shelf heard; lines = desk.lines; keeper = keeper }

@@ -8,7 +8,7 @@ use Rattle.scenario_keeper.specs.Names.{NamesRise}
 use Rattle.scenario_keeper.specs.Scenario.{Scenario}
 use Rattle.scenario_keeper.specs.Table.{Table, with_scenario, without_name, Finds, SaysWhether, Lists}
 use Rattle.session_lines.specs.Replies.{ok_text}
-use Rattle.whatif_session.specs.State.{SessionState, SessionView, IsPresent}
+use Rattle.whatif_session.specs.State.{SessionState, SessionView, IsPresent, with_limits}
 use Rattle.whatif_session.specs.Step.{SessionStep}
 use Rattle.desk_session.specs.declared.fault.DeskFault.{DeskFault}
 use Rattle.desk_session.specs.declared.fault.DeskFault.TheVariants as fault
@@ -27,7 +27,7 @@ pub record StepsSession (line : List ℕ) (old : DeskMoment) (reply : List ℕ) 
 
 -- Lines that ask something of the keeper.
 
--- this is the reply, and these are the session, its lines and the scenarios that are left; no file is changed
+-- this is the reply, and these are the session, its lines and the scenarios that are left; no file is changed, and the watch says nothing
 pub record LeavesAtDesk (text : List ℕ) (session : SessionState) (lines : List (List ℕ)) (told : Option Table) (old : DeskMoment) (reply : List ℕ) (new : DeskMoment) : Type 0 where
   pub reply_is : reply ≡ text
   pub moment_is : new.moment ≡ record old.moment { session = session }
@@ -42,9 +42,9 @@ TellsAtDesk text told old reply new = LeavesAtDesk text old.moment.session old.l
 abbrev pub Refuses : DeskFault → DeskMoment → List ℕ → DeskMoment → Type 0
 Refuses why old reply new = TellsAtDesk (desk_refusal_text why) old.keeper.table old reply new
 
--- the desk goes on with the session of a scenario and its lines, or the scenario is bad at a line
+-- the desk goes on with the session of a scenario and its lines, under the limits that are in force, or the scenario is bad at a line
 abbrev pub TakesUp : (lines : List (List ℕ)) → Result SessionView ℕ → DeskMoment → List ℕ → DeskMoment → Type 0
-TakesUp lines (Ok session) old reply new = LeavesAtDesk (loaded_text (length lines)) session.state lines old.keeper.table old reply new
+TakesUp lines (Ok session) old reply new = LeavesAtDesk (loaded_text (length lines)) (with_limits session.state old.moment.session.in_force) lines old.keeper.table old reply new
 TakesUp lines (Err line) old reply new = Refuses (fault.BadScenario line) old reply new
 
 -- what the keeper found is loaded; where it found nothing, the line is refused
@@ -89,3 +89,4 @@ pub record DeskStep (old : DeskMoment) (line reply : List ℕ) (new : DeskMoment
   pub behind : IsInOrder new
   pub counts : old.keeper.faults ≤ new.keeper.faults
   pub writes : NeverFalls old.moment.failed_writes new.moment.failed_writes
+  pub hears : old.moment.heard ≤ new.moment.heard

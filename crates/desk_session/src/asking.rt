@@ -6,14 +6,15 @@ ghost use Rattle.desk_session.specs.Lines.{Keep, Load, Forget, Names};
 ghost use Rattle.desk_session.specs.Loaded.{loaded};
 ghost use Rattle.desk_session.specs.State.{keeper_state};
 
-use crate::loading::{LoadFault, desk_of};
+use crate::loading::{LoadFault, load};
 use crate::replies::{keeper_refusal, loaded_text, names_text, refusal};
 use crate::request::KeeperRequest;
 use crate::{Desk, DeskFault, Keeper, NoMemory, Reply};
 use scenario_keeper::Scenario;
 use session_lines::ok_text;
+use whatif_session::Solver;
 
-impl Desk {
+impl<S: Solver + Drop> Desk<S> {
     // Does what a line asks of the keeper.
     pub(crate) fn ask<K: Keeper>(
         &mut self,
@@ -82,15 +83,17 @@ impl Desk {
         }
     }
 
-    // Goes on with a scenario, in the place of the session so far.
+    // Goes on with a scenario, in the place of the session so far. A scenario says nothing of limits: those in force
+    // stay.
     fn take_up(&mut self, scenario: &Scenario) -> Result<Reply, NoMemory>
         ensures taken { IfOk result (λ reply. HasTakenUp scenario.now.edits (loaded scenario.now) self.old reply self.new) }
         ensures kept { OnErr result (self.new ≡ self.old) }
     {
         let text = loaded_text(self.alloc, scenario.lines())?;
-        match desk_of(self.alloc, scenario) {
-            Ok(desk) => {
-                *self = desk;
+        match load(self.alloc, scenario) {
+            Ok(loaded) => {
+                self.session.begin_with(loaded.history);
+                self.kept = loaded.kept;
                 Ok(Reply::of(text))
             }
             Err(LoadFault::BadLine(line)) => refusal(self.alloc, DeskFault::BadScenario(line)),

@@ -1,16 +1,19 @@
 //! How a scenario is loaded: its base is read, and its edits are made one after another.
-ghost use Rattle.std.specs.Prelude.{◌≡◌, ◌+◌, ◌++◌, ◌∷◌, [], Some, Ok, IfOk, IfErr, OnOk, fold, length};
+ghost use Rattle.std.specs.Prelude.{◌≡◌, ◌+◌, [], All, None, Some, Ok, IfOk, IfErr, OnOk, fold, length};
+ghost use Rattle.edit_history.specs.History.{begun};
 ghost use Rattle.instance_edits.specs.Edits.{HasAmounts};
 ghost use Rattle.session_lines.specs.Lines.{line_edit};
 ghost use Rattle.desk_session.specs.Loaded.{based_on, held_next, holding_line, loaded, next_line};
 ghost use Rattle.desk_session.specs.declared.loading.LoadFault.TheVariants as faults;
-ghost use Rattle.desk_session.specs.Done.{IsLoadFault, load_fault};
+ghost use Rattle.desk_session.specs.Done.{IsLoadFault, kept_of, load_fault, session_of, with_more};
+ghost use Rattle.scenario_keeper.specs.Scenario.{with_line};
 
-use crate::{Desk, NoMemory};
+use crate::{Instance, NoMemory};
+use edit_history::EditedInstance;
 use fixed_cost::{FormFault, MAX_INSTANCE_BYTES};
 use scenario_keeper::Scenario;
 use std::alloc::Global;
-use whatif_session::{Edit, SessionFault, read_edit};
+use whatif_session::{Edit, EditFault, MAX_EDITS, read_edit};
 
 /// Why a scenario isn't loaded.
 #[derive(Clone, Copy, Debug, PartialEq, Eq)]
@@ -29,47 +32,67 @@ impl From<NoMemory> for LoadFault {
     }
 }
 
-/// A desk that begins with a scenario.
-pub(crate) fn desk_of(alloc: Global, scenario: &Scenario) -> Result<Desk, LoadFault>
-    ensures session { IfOk result (λ desk. loaded scenario.now ≡ Ok desk.session) }
-    ensures lines { IfOk result (λ desk. desk.lines ≡ scenario.now.edits) }
+/// A scenario as it is loaded: its base with the edits that were made of it so far, and what would be kept of them.
+#[derive(Drop)]
+pub(crate) struct Loaded {
+    pub(crate) history: EditedInstance,
+    pub(crate) kept: Scenario,
+}
+
+/// Loads a scenario. Nothing is solved.
+pub(crate) fn load(alloc: Global, scenario: &Scenario) -> Result<Loaded, LoadFault>
+    ensures session { IfOk result (λ made. loaded scenario.now ≡ Ok (session_of made.history)) }
+    ensures unsolved { IfOk result (λ made. All (λ held. held.serial ≡ None) made.history.edits) }
+    ensures kept { IfOk result (λ made. made.kept ≡ kept_of made.history scenario.now.edits) }
     ensures fault { IfErr result (IsLoadFault (loaded scenario.now)) }
 {
-    let mut desk = match begun_on(alloc, scenario.base()) {
-        Ok(desk) => desk,
+    let mut loaded = match begun_on(alloc, scenario.base()) {
+        Ok(loaded) => loaded,
         Err(fault) => return Err(fault),
     };
-    match desk.hold_all(scenario) {
-        Ok(()) => Ok(desk),
+    match loaded.hold_all(alloc, scenario) {
+        Ok(()) => Ok(loaded),
         Err(fault) => Err(fault),
     }
 }
 
-// A desk that begins on the instance of this text.
-fn begun_on(alloc: Global, base: &[u8]) -> Result<Desk, LoadFault>
-    ensures begun { IfOk result (λ desk. (based_on base.now ≡ Ok desk.session) × (desk.lines ≡ [])) }
+// The scenario that begins on the instance of this text.
+fn begun_on(alloc: Global, base: &[u8]) -> Result<Loaded, LoadFault>
+    ensures begun { IfOk result (λ made. (based_on base.now ≡ Ok (session_of made.history)) × (made.history.edits ≡ []) × (made.kept ≡ kept_of made.history [])) }
     ensures fault { IfErr result (IsLoadFault (based_on base.now)) }
 {
     if base.len() as u64 > MAX_INSTANCE_BYTES {
         return Err(LoadFault::BadLine(0));
     }
     match instance_text::read(alloc, base) {
-        Ok(inst) => Ok(Desk::start(alloc, inst)?),
+        Ok(inst) => Ok(begun_with(alloc, inst)?),
         Err(FormFault::File(_)) => Err(LoadFault::BadLine(0)),
         Err(FormFault::NoMemory) => Err(LoadFault::NoMemory),
     }
 }
 
-impl Desk {
+// The scenario that begins on this instance.
+fn begun_with(alloc: Global, inst: Instance) -> Result<Loaded, NoMemory>
+    ensures { IfOk result (λ made. (made.history ≡ begun inst) × (made.kept ≡ kept_of (begun inst) [])) }
+{
+    // Edits change the instance in its place, so the text of the base is made before the first one.
+    let base = instance_text::write(alloc, &inst)?;
+    let kept = Scenario::new(alloc, base);
+    let history = EditedInstance::begun(alloc, inst)?;
+    Ok(Loaded { history, kept })
+}
+
+impl Loaded {
     // Makes the edits of a scenario, up to the first one that is refused.
-    fn hold_all(&mut self, scenario: &Scenario) -> Result<(), LoadFault>
-        requires { self.old.session.state.edits ≡ [] }
-        ensures session { OnOk result (fold held_next (Ok self.old.session) scenario.now.edits ≡ Ok self.new.session) }
-        ensures lines { OnOk result (self.new.lines ≡ self.old.lines ++ scenario.now.edits) }
-        ensures fault { IfErr result (IsLoadFault (fold held_next (Ok self.old.session) scenario.now.edits)) }
+    fn hold_all(&mut self, alloc: Global, scenario: &Scenario) -> Result<(), LoadFault>
+        requires { self.old.history.edits ≡ [] }
+        ensures session { OnOk result (fold held_next (Ok (session_of self.old.history)) scenario.now.edits ≡ Ok (session_of self.new.history)) }
+        ensures kept { OnOk result (self.new.kept ≡ with_more self.old.kept scenario.now.edits) }
+        ensures base { self.new.history.base ≡ self.old.history.base }
+        ensures fault { IfErr result (IsLoadFault (fold held_next (Ok (session_of self.old.history)) scenario.now.edits)) }
     {
         for k in 0..scenario.lines() {
-            if let Err(fault) = self.hold_line(scenario.line(k), k as u64 + 1) {
+            if let Err(fault) = self.hold_line(alloc, scenario.line(k), k as u64 + 1) {
                 return Err(fault);
             }
         }
@@ -77,48 +100,50 @@ impl Desk {
     }
 
     // Makes the edit of a line, if it is one. The line has this number.
-    fn hold_line(&mut self, line: &[u8], number: u64) -> Result<(), LoadFault>
-        requires { number ≡ next_line self.old.session }
-        ensures session { OnOk result (held_next (Ok self.old.session) line.now ≡ Ok self.new.session) }
-        ensures lines { OnOk result (self.new.lines ≡ self.old.lines ++ line.now ∷ []) }
-        ensures one_more { OnOk result (length self.new.session.state.edits ≡ length self.old.session.state.edits + 1) }
-        ensures fault { IfErr result (IsLoadFault (held_next (Ok self.old.session) line.now)) }
+    fn hold_line(&mut self, alloc: Global, line: &[u8], number: u64) -> Result<(), LoadFault>
+        requires { number ≡ next_line (session_of self.old.history) }
+        ensures session { OnOk result (held_next (Ok (session_of self.old.history)) line.now ≡ Ok (session_of self.new.history)) }
+        ensures kept { OnOk result (self.new.kept ≡ with_line self.old.kept line.now) }
+        ensures base { self.new.history.base ≡ self.old.history.base }
+        ensures one_more { OnOk result (length self.new.history.edits ≡ length self.old.history.edits + 1) }
+        ensures fault { IfErr result (IsLoadFault (held_next (Ok (session_of self.old.history)) line.now)) }
     {
-        match read_edit(self.alloc, line)? {
-            Some(edit) => self.hold(line, edit, number),
+        match read_edit(alloc, line)? {
+            Some(edit) => self.hold(alloc, line, edit, number),
             None => Err(LoadFault::BadLine(number)),
         }
     }
 
     // Makes the edit of a line, which has this number.
-    fn hold(&mut self, line: &[u8], edit: Edit, number: u64) -> Result<(), LoadFault>
+    fn hold(&mut self, alloc: Global, line: &[u8], edit: Edit, number: u64) -> Result<(), LoadFault>
         requires asked { line_edit line.now ≡ Some edit }
         requires amounts { HasAmounts edit }
-        requires number { number ≡ next_line self.old.session }
-        ensures session { OnOk result (holding_line self.old.session (Some edit) ≡ Ok self.new.session) }
-        ensures lines { OnOk result (self.new.lines ≡ self.old.lines ++ line.now ∷ []) }
-        ensures one_more { OnOk result (length self.new.session.state.edits ≡ length self.old.session.state.edits + 1) }
-        ensures fault { IfErr result (IsLoadFault (holding_line self.old.session (Some edit))) }
+        requires number { number ≡ next_line (session_of self.old.history) }
+        ensures session { OnOk result (holding_line (session_of self.old.history) (Some edit) ≡ Ok (session_of self.new.history)) }
+        ensures kept { OnOk result (self.new.kept ≡ with_line self.old.kept line.now) }
+        ensures base { self.new.history.base ≡ self.old.history.base }
+        ensures one_more { OnOk result (length self.new.history.edits ≡ length self.old.history.edits + 1) }
+        ensures fault { IfErr result (IsLoadFault (holding_line (session_of self.old.history) (Some edit))) }
     {
+        if self.history.count() >= MAX_EDITS {
+            return Err(LoadFault::BadLine(number));
+        }
         let Ok(()) = self.kept.push(line) else {
             return Err(LoadFault::NoMemory);
         };
-        match self.session.edit(edit) {
-            Ok(_) => Ok(()),
-            Err(fault) => {
-                self.kept.pop();
-                Err(load_fault(fault, number))
-            }
+        match self.history.change(alloc, edit, None) {
+            Ok(()) => Ok(()),
+            Err(fault) => Err(load_fault(fault, number)),
         }
     }
 }
 
-// Why a scenario isn't loaded of which the session refuses the edit at this line.
-fn load_fault(fault: SessionFault, line: u64) -> LoadFault
+// Why a scenario isn't loaded of which the instance refuses the edit at this line.
+fn load_fault(fault: EditFault, line: u64) -> LoadFault
     ensures { result ≡ load_fault fault line }
 {
     match fault {
-        SessionFault::NoMemory => LoadFault::NoMemory,
+        EditFault::NoMemory => LoadFault::NoMemory,
         _ => LoadFault::BadLine(line),
     }
 }

@@ -1,13 +1,15 @@
 //! The program: the words of the command line, over the host's files, standard input and standard
-//! output. Everything is printed to standard output, and the program ends with the status's number.
+//! output. Everything is printed to standard output, and the program ends with the status's number. Behind a leading
+//! `--tell` standard error gets how far a search is, and why an instance has no plan.
 #![tactic(auto)]
 
+use best_solver::BestSolver;
 use dualoc_cli::{Status, run};
+use host_watch::{HostWatch, ProgramWords, program_words};
 use shelf_port::{RealShelf, RealSink, RealSource, write_whole};
-use std::env::Env;
-use std::io::ErrorKind;
+use std::fs;
 use std::process::ExitCode;
-use std::{env, fs, io};
+use told_solver::ToldSolver;
 
 // Where a standard stream was closed before the start, the next file that is opened takes its number, and what is
 // printed would go to that file. This one gives nothing and takes nothing.
@@ -20,11 +22,22 @@ fn main(rt: HostRuntime) -> ExitCode {
         fs::open(&rt, NO_STREAM).ok(),
     ];
     let mut out = RealSink::new(&rt);
-    let status = match words(&rt) {
-        Ok(words) => {
+    let status = match program_words(&rt) {
+        Ok(ProgramWords { tells, words }) => {
             let mut shelf = RealShelf::new(&rt);
             let mut input = RealSource::new(&rt);
-            run(rt.alloc(), &words, &mut shelf, &mut input, &mut out)
+            let mut watch = HostWatch::new(&rt, tells);
+            let status = run(
+                rt.alloc(),
+                &words,
+                ToldSolver::new(&rt, tells, BestSolver),
+                &mut shelf,
+                &mut input,
+                &mut out,
+                &mut watch,
+            );
+            watch.end();
+            status
         }
         Err(_) => {
             // A line that can't be written leaves nothing more to say.
@@ -33,14 +46,4 @@ fn main(rt: HostRuntime) -> ExitCode {
         }
     };
     ExitCode::from(status.number())
-}
-
-// The words behind the program's name: none where one of them is no text. It fails only where
-// memory runs out.
-fn words<R: Env + AllocGlobal>(rt: &R) -> io::Result<Vec<String>> {
-    match env::args(rt) {
-        Ok(words) => Ok(words.skip(1).collect(rt.alloc())?),
-        Err(e) if e.kind() == ErrorKind::OutOfMemory => Err(e),
-        Err(_) => Ok(Vec::new(rt.alloc())),
-    }
 }

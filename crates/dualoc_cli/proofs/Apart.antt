@@ -3,13 +3,16 @@ use Rattle.std.proofs.Common.{◌≡◌, ℕ, ◌==◌, Bool, true, false, List,
 use Rattle.std.specs.Prelude.{◌&&◌, ◌||◌, not, bytes_eq, codes, nat_le, if◌then◌else◌, IfSome}
 use Rattle.std.specs.List.{list_any}
 use Rattle.std.specs.Option.{option_map, option_and_then}
+use Rattle.watch_port.specs.declared.limits.Limits.{Limits}
+use Rattle.limit_words.specs.Limits.{limits_given}
+use Rattle.dualoc_cli.specs.declared.options.Effort.{Effort}
 use Rattle.dualoc_cli.specs.declared.options.Options.{Options}
 use Rattle.dualoc_cli.specs.declared.options.Takes.{Takes}
 use Rattle.instance_forms.specs.declared.form.FileForm.TheVariants.{Ufl}
 use Rattle.instance_forms.specs.Forms.{InstanceFile, instance_file, file_of}
 use Rattle.dualoc_cli.specs.declared.words.CostAt.{CostAt}
 use Rattle.dualoc_cli.specs.declared.words.CostAt.TheVariants.{Site, Lane}
-use Rattle.dualoc_cli.specs.Command.{Command, OnFile, OnTrial, ResultFiles, into_files, Job, SolveShort, SolveLong, ShowDuals, Check, Convert, Session, ShowRange, Center, Curve, range_on, fixed_range_command, lane_range_command, range_command, are_names, no_budget, a_budget, a_budget_and_count, options_of, job_on, on_files, solve_command, duals_command, check_command, convert_command, session_command, sites_count, center_command, curve_of, curve_command, plain_count, are_trial_numbers, trial_of, trial_command, command_of}
+use Rattle.dualoc_cli.specs.Command.{Command, OnFile, OnTrial, ResultFiles, into_files, Job, SolveShort, SolveLong, ShowDuals, Check, Convert, Session, ShowRange, Center, Curve, range_on, fixed_range_command, lane_range_command, range_command, are_names, no_budget, a_budget, a_budget_and_count, options_of, effort_in, job_on, on_files, solve_command, duals_command, check_command, convert_command, session_command, sites_count, center_command, curve_of, curve_command, plain_count, are_trial_numbers, trial_of, trial_command, command_of}
 
 -- the first of some names isn't among the others, which are names too
 first_name : (x y z : Bool) → (not x && not y && z) ≡ true → (y ≡ false) × (z ≡ true)
@@ -42,8 +45,8 @@ three_apart one other third named =
 
 -- the files that a job writes, where their texts depend on each other
 abbrev written_names : Job → List (List ℕ)
-written_names (SolveLong into given) = into.plan ∷ into.certificate ∷ []
-written_names (Center into new given count) = into.plan ∷ into.certificate ∷ new ∷ []
+written_names (SolveLong into effort) = into.plan ∷ into.certificate ∷ []
+written_names (Center into new effort count) = into.plan ∷ into.certificate ∷ new ∷ []
 written_names job = []
 
 abbrev AreNamed : Job → Type 0
@@ -51,7 +54,7 @@ AreNamed job = are_names (written_names job) ≡ true
 
 abbrev IsNamed : Command → Type 0
 IsNamed (OnFile file job) = AreNamed job
-IsNamed (OnTrial seed m n) = Unit {0}
+IsNamed (OnTrial seed m n limits) = Unit {0}
 
 abbrev Named : Option Command → Type 0
 Named command = IfSome command IsNamed
@@ -85,7 +88,7 @@ solve_named (a ∷ []) = tt
 solve_named (form ∷ name ∷ []) = named_if _ (Some (OnFile (instance_file Ufl name None) SolveShort)) (λ named. refl)
 solve_named (a ∷ b ∷ c ∷ []) = tt
 solve_named (form ∷ name ∷ plan ∷ certificate ∷ options) =
-    files_named form name (plan ∷ certificate ∷ []) a_budget (λ o. SolveLong (into_files plan certificate) o.budget) options (λ o named. named)
+    files_named form name (plan ∷ certificate ∷ []) a_budget (λ o. SolveLong (into_files plan certificate) (effort_in o)) options (λ o named. named)
 
 duals_named : (words : List (List ℕ)) → Named (duals_command words)
 unfolding duals_command
@@ -113,19 +116,23 @@ session_named [] = tt
 session_named (a ∷ []) = tt
 session_named (form ∷ name ∷ options) = files_named form name [] no_budget (λ o. Session) options (λ o named. refl)
 
-numbers_named : (seed m n : Option ℕ) → Named (option_and_then (λ s. option_and_then (λ sites. option_and_then (λ customers. trial_of s sites customers) n) m) seed)
-numbers_named None m n = tt
-numbers_named (Some s) None n = tt
-numbers_named (Some s) (Some sites) None = tt
-numbers_named (Some s) (Some sites) (Some customers) = named_if (are_trial_numbers s sites customers) (Some (OnTrial s sites customers)) (λ within. tt)
+limited_named : (seed m n : ℕ) (limits : Option Limits) → Named (option_map (OnTrial seed m n) limits)
+limited_named seed m n None = tt
+limited_named seed m n (Some limits) = tt
+
+numbers_named : (words : List (List ℕ)) (seed m n : Option ℕ) → Named (option_and_then (λ s. option_and_then (λ sites. option_and_then (λ customers. trial_of s sites customers words) n) m) seed)
+numbers_named words None m n = tt
+numbers_named words (Some s) None n = tt
+numbers_named words (Some s) (Some sites) None = tt
+numbers_named words (Some s) (Some sites) (Some customers) =
+    named_if (are_trial_numbers s sites customers) (option_map (OnTrial s sites customers) (limits_given words)) (λ within. limited_named s sites customers (limits_given words))
 
 trial_named : (words : List (List ℕ)) → Named (trial_command words)
 unfolding trial_command
 trial_named [] = tt
 trial_named (a ∷ []) = tt
 trial_named (a ∷ b ∷ []) = tt
-trial_named (seed ∷ m ∷ n ∷ []) = numbers_named (plain_count seed) (plain_count m) (plain_count n)
-trial_named (a ∷ b ∷ c ∷ d ∷ rest) = tt
+trial_named (seed ∷ m ∷ n ∷ words) = numbers_named words (plain_count seed) (plain_count m) (plain_count n)
 
 center_named : (words : List (List ℕ)) → Named (center_command words)
 unfolding center_command
@@ -135,13 +142,13 @@ center_named (a ∷ b ∷ []) = tt
 center_named (a ∷ b ∷ c ∷ []) = tt
 center_named (a ∷ b ∷ c ∷ d ∷ []) = tt
 center_named (form ∷ name ∷ plan ∷ certificate ∷ new ∷ options) =
-    files_named form name (plan ∷ certificate ∷ new ∷ []) a_budget_and_count (λ o. Center (into_files plan certificate) new o.budget o.count) options (λ o named. named)
+    files_named form name (plan ∷ certificate ∷ new ∷ []) a_budget_and_count (λ o. Center (into_files plan certificate) new (effort_in o) o.count) options (λ o named. named)
 
 counts_named : (form name : List ℕ) (options : List (List ℕ)) (first last : Option ℕ) → Named (option_and_then (λ a. option_and_then (λ b. curve_of form name a b options) last) first)
 counts_named form name options None last = tt
 counts_named form name options (Some a) None = tt
 counts_named form name options (Some a) (Some b) =
-    named_if (nat_le a b) _ (λ rises. files_named form name [] a_budget (λ o. Curve a b o.budget) options (λ o named. refl))
+    named_if (nat_le a b) _ (λ rises. files_named form name [] a_budget (λ o. Curve a b (effort_in o)) options (λ o named. refl))
 
 curve_named : (words : List (List ℕ)) → Named (curve_command words)
 unfolding curve_command
@@ -199,13 +206,13 @@ command_named (verb ∷ words) =
     (named_if (bytes_eq verb (codes "curve")) (curve_command words) (λ is. curve_named words)))))))))
 
 -- the plan and the certificate of a search
-pub apart : (file : InstanceFile) (into : ResultFiles) (given : Option ℕ) (words : List (List ℕ)) → command_of words ≡ Some (OnFile file (SolveLong into given)) → bytes_eq into.plan into.certificate ≡ false
-apart file into given words e = two_apart into.plan into.certificate (subst Named e (command_named words))
+pub apart : (file : InstanceFile) (into : ResultFiles) (effort : Effort) (words : List (List ℕ)) → command_of words ≡ Some (OnFile file (SolveLong into effort)) → bytes_eq into.plan into.certificate ≡ false
+apart file into effort words e = two_apart into.plan into.certificate (subst Named e (command_named words))
 
 -- the three files of a center
-pub all_apart : (file : InstanceFile) (into : ResultFiles) (new : List ℕ) (given count : Option ℕ) (words : List (List ℕ)) → command_of words ≡ Some (OnFile file (Center into new given count))
+pub all_apart : (file : InstanceFile) (into : ResultFiles) (new : List ℕ) (effort : Effort) (count : Option ℕ) (words : List (List ℕ)) → command_of words ≡ Some (OnFile file (Center into new effort count))
     → (bytes_eq into.plan into.certificate ≡ false) × (bytes_eq into.plan new ≡ false) × (bytes_eq into.certificate new ≡ false)
-all_apart file into new given count words e =
+all_apart file into new effort count words e =
     let named : are_names (into.plan ∷ into.certificate ∷ new ∷ []) ≡ true = subst Named e (command_named words) in
     let first = three_apart into.plan into.certificate new named in
     (first.0, first.1, two_apart into.certificate new (behind_first into.plan (into.certificate ∷ new ∷ []) named))

@@ -84,14 +84,14 @@ fails_in r old new name part rose =
 -- where a part of a run, and what is left of it, change no file, the job keeps what it has to
 keeps : (r : Run) (job : Job) → ChangesNoFile r → KeepsFiles r job
 keeps r SolveShort same = same
-keeps r (SolveLong into given) same = inl same
+keeps r (SolveLong into effort) same = inl same
 keeps r ShowDuals same = same
 keeps r (Check certificate) same = same
 keeps r (Convert new) same = inl same
 keeps r Session same = inl same
 keeps r (ShowRange certificate at) same = same
-keeps r (Center into new given count) same = inl same
-keeps r (Curve first last given) same = same
+keeps r (Center into new effort count) same = inl same
+keeps r (Curve first last effort) same = same
 
 pub changes_none : (r : Run) (old new : ShelfState) → Covers r old new → new.files ≡ old.files → ChangesNoFile r
 changes_none r old new part same = sym part.left ∙ same ∙ part.files

@@ -26,7 +26,10 @@ use Rattle.plan_radius.specs.Cheaper.{below_cost}
 use Rattle.plan_radius.proofs.Thresholds.{valid_below}
 use Rattle.center_solve.specs.declared.answer.CenterAnswer.{CenterAnswer}
 use Rattle.center_solve.specs.declared.answer.CenterAnswer.TheVariants.{Best, Infeasible, Open}
-use Rattle.center_solve.specs.Center.{ShowsNoPlan, root_of, probed, IsTreeOfProbe, IsCenterAnswer, CenterHolds, HasEndedSearch}
+use Rattle.solver_port.specs.Start.{root_of}
+use Rattle.center_solve.specs.Center.{ShowsNoPlan, probed, IsTreeOfProbe, IsCenterAnswer, CenterHolds, HasEndedSearch}
+use Rattle.watch_port.specs.Left.{IsBudgetLeft}
+use Rattle.dualoc_cli.specs.declared.options.Effort.{Effort}
 use Rattle.dualoc_cli.specs.Command.{ResultFiles, Center}
 use Rattle.dualoc_cli.specs.declared.reply.Reply.{Reply}
 use Rattle.dualoc_cli.specs.declared.reply.CenterEnd.{CenterEnd}
@@ -34,10 +37,12 @@ use Rattle.dualoc_cli.specs.Run.{Run, HasTask}
 use Rattle.dualoc_cli.specs.Check.{DeservesYes}
 use Rattle.dualoc_cli.specs.Search.{HasLargeBudget}
 use Rattle.dualoc_cli.specs.Center.{counted_by, HasCenterTask, cut_instance, showing_tree, cut_certificate, center_plan, center_end, IsCenterFound, HasCenter, center_plan_text, cut_certificate_text, cut_text, IsCentered, IsCenterPlanBegun, IsCutCertificateBegun, IsCutBegun, IsCenterUnwritten, HasCenterBegun}
-use Rattle.dualoc_cli.specs.Due.{IsCause, KeepsFiles}
-use Rattle.dualoc_cli.specs.Step.{Covers}
+use Rattle.dualoc_cli.specs.Reply.{status_of}
+use Rattle.dualoc_cli.specs.Due.{IsCause, IsRefusalStatus, KeepsFiles}
+use Rattle.dualoc_cli.specs.Step.{Heard, Covers}
 use Rattle.dualoc_cli.proofs.Causes.{rose_over, changes_none}
 use Rattle.dualoc_cli.proofs.Apart.{all_apart}
+use Rattle.dualoc_cli.proofs.Trying.{heard_left}
 use Rattle.dualoc_cli.proofs.Searching.{large_for}
 use Rattle.dualoc_cli.proofs.Storing.{held_now, held_still}
 
@@ -56,23 +61,23 @@ one_leaf (Fork split first second) one = absurd (omega (arith, one, some_nodes f
     some_nodes (Leaf d) = omega arith
     some_nodes (Fork s a b) = omega arith
 
-module _ (I : Instance) (budget : ℕ) (within : IsWithin I budget) (valid : IsValid I) where
+module _ (I : Instance) (given : ℕ) (within : IsWithin I given) (valid : IsValid I) where
   -- the tree of an answer takes no decision twice, and is as small as its budget
-  once : (t : Tree) → IsTreeOfProbe I budget t → DecidesOnce t
+  once : (t : Tree) → IsTreeOfProbe I given t → DecidesOnce t
   once t (inl one) = one_leaf t.root one
   once t (inr grew) =
       let Z = probed I grew.0 in
       grown_once Z None None (root_of Z) t (leaf_once Z (zeros Z 1)) grew.1
 
-  few : (t : Tree) → IsTreeOfProbe I budget t → nodes_of t * (length I.sites + length I.customers) ≤ MAX_TREE_NUMBERS
+  few : (t : Tree) → IsTreeOfProbe I given t → nodes_of t * (length I.sites + length I.customers) ≤ MAX_TREE_NUMBERS
   few t (inl one) = omega (arith, valid.sizes.few_sites, valid.sizes.few_customers, ap (λ k. k * (length I.sites + length I.customers)) one)
   few t (inr grew) =
-      let product : nodes_of t * (length I.sites + length I.customers) ≤ (budget + 1) * (length I.sites + length I.customers) =
-      mul-le (nodes_of t) (length I.sites + length I.customers) (budget + 1) (length I.sites + length I.customers) grew.2 (omega arith) in
+      let product : nodes_of t * (length I.sites + length I.customers) ≤ (given + 1) * (length I.sites + length I.customers) =
+      mul-le (nodes_of t) (length I.sites + length I.customers) (given + 1) (length I.sites + length I.customers) grew.2 (omega arith) in
       omega (arith, valid.sizes.few_sites, valid.sizes.few_customers, within, product)
 
   -- so the checker says yes to its certificate, for an instance of as many sites and customers
-  deserves : (J : Instance) (t : Tree) → IsValid J → length J.sites ≡ length I.sites → length J.customers ≡ length I.customers → ShowsNoPlan J t → IsTreeOfProbe I budget t
+  deserves : (J : Instance) (t : Tree) → IsValid J → length J.sites ≡ length I.sites → length J.customers ≡ length I.customers → ShowsNoPlan J t → IsTreeOfProbe I given t
       → DeservesYes J (record { claim = NoPlan; plan = None; tree = t })
   deserves J t of_J sites customers shown sized =
       let numbers : nodes_of t * (length J.sites + length J.customers) ≤ MAX_TREE_NUMBERS =
@@ -84,19 +89,19 @@ module _ (I : Instance) (budget : ℕ) (within : IsWithin I budget) (valid : IsV
             (few_where_once J t of_J shown.tree shown.stands (once t sized) numbers);
       }
 
-  deserved : (a : CenterAnswer) → IsCenterAnswer I budget a → DeservesYes (cut_instance I a) (cut_certificate a)
-  deserved (Best radius plan tree) is = deserves (below_cost I radius) tree (valid_below I radius valid) refl refl is.2 is.3
-  deserved (Infeasible tree) is = deserves I tree valid refl refl is.0 is.1
-  deserved (Open low plan tree at probe) is = deserves (below_cost I low) tree (valid_below I low valid) refl refl is.shown is.sized
+  deserved : (budget : ℕ) (a : CenterAnswer) → IsCenterAnswer I given budget a → DeservesYes (cut_instance I a) (cut_certificate a)
+  deserved budget (Best radius plan tree) is = deserves (below_cost I radius) tree (valid_below I radius valid) refl refl is.2 is.3
+  deserved budget (Infeasible tree) is = deserves I tree valid refl refl is.0 is.1
+  deserved budget (Open low plan tree at probe) is = deserves (below_cost I low) tree (valid_below I low valid) refl refl is.shown is.sized
 
-  pub found_center : (a : CenterAnswer) → IsCenterAnswer I budget a → CenterHolds I a → (2 ^ (most_decisions I + 1) ≤ budget → HasEndedSearch a) → IsCenterFound I budget a
-  found_center a shown holds decided = record { shown = shown; holds = holds; deserved = deserved a shown; decided = decided }
+  pub found_center : (budget : ℕ) (a : CenterAnswer) → IsCenterAnswer I given budget a → CenterHolds I a → (2 ^ (most_decisions I + 1) ≤ budget → HasEndedSearch a) → IsCenterFound I given budget a
+  found_center budget a shown holds decided = record { shown = shown; holds = holds; deserved = deserved budget a shown; decided = decided }
 
 -- the plan of an answer is feasible
-pub center_feasible : (I : Instance) (budget : ℕ) (a : CenterAnswer) → IsCenterAnswer I budget a → IfSome (center_plan a) (IsFeasible I)
-center_feasible I budget (Best radius plan tree) is = is.0
-center_feasible I budget (Infeasible tree) is = tt
-center_feasible I budget (Open low plan tree at probe) is = is.feasible
+pub center_feasible : (I : Instance) (given budget : ℕ) (a : CenterAnswer) → IsCenterAnswer I given budget a → IfSome (center_plan a) (IsFeasible I)
+center_feasible I given budget (Best radius plan tree) is = is.0
+center_feasible I given budget (Infeasible tree) is = tt
+center_feasible I given budget (Open low plan tree at probe) is = is.feasible
 
 -- the instance that is cut is valid
 cut_valid : (I : Instance) (a : CenterAnswer) → IsValid I → IsValid (cut_instance I a)
@@ -117,7 +122,7 @@ pub shown_text : (I : Instance) (a : CenterAnswer) (cut : Instance) (t : Tree) �
 shown_text I a cut t cut_is tree_is = ap (λ A. certificate_text A (cut_certificate_of t)) cut_is ∙ ap (λ s. certificate_text (cut_instance I a) (cut_certificate_of s)) tree_is
 
 -- The files.
-module _ (r : Run) (into : ResultFiles) (new : List ℕ) (I : Instance) (budget : ℕ) (a : CenterAnswer) (asked : HasCenterTask r into new I budget) (found : IsCenterFound I budget a)
+module _ (r : Run) (into : ResultFiles) (new : List ℕ) (I : Instance) (budget : ℕ) (a : CenterAnswer) (result : HasCenter r into new I budget a)
     (old last : ShelfState) (part : Covers r old last) where
   abbrev plan : List ℕ
   plan = center_plan_text I a
@@ -127,9 +132,6 @@ module _ (r : Run) (into : ResultFiles) (new : List ℕ) (I : Instance) (budget 
 
   abbrev cut : List ℕ
   cut = cut_text I a
-
-  result : HasCenter r into new I budget a
-  result = record { asked = asked; found = found }
 
   plan_begun : LeavesPrefix old.files last.files into.plan plan → IsCenterPlanBegun r into I a
   plan_begun left =
@@ -187,7 +189,7 @@ module _ (r : Run) (into : ResultFiles) (new : List ℕ) (I : Instance) (budget 
         at_end = ap (λ f. with_file f new cut) (sym following) ∙ sym whole ∙ part.left
 
         abbrev named : (bytes_eq into.plan into.certificate ≡ false) × (bytes_eq into.plan new ≡ false) × (bytes_eq into.certificate new ≡ false)
-        named = all_apart asked.task.file into new asked.given asked.count r.words asked.task.asked.words_are
+        named = all_apart result.asked.task.file into new result.asked.effort result.asked.count r.words result.asked.task.asked.words_are
 
         plan_held : MayHold r.after.shelf.files into.plan plan
         plan_held =
@@ -222,23 +224,48 @@ module _ (r : Run) (into : ResultFiles) (new : List ℕ) (I : Instance) (budget 
         pub begun_whole : HasCenterBegun r into new
         begun_whole = begun_cut (inr (length cut, omega arith, whole ∙ ap (λ t. with_file next.files new t) (sym (take_all (length cut) cut (omega arith)))))
 
--- a reply has its cause for each run that asks for a center with this budget in force, and so for each that asks for the task
-module _ (into : ResultFiles) (new : List ℕ) (given count : Option ℕ) (listed I : Instance) (budget : ℕ) (old last : ShelfState) (counted : I ≡ counted_by count listed) (in_force : budget ≡ budget_in listed given)
-    (within : budget ≤ max_budget listed) where
-  abbrev asks : (r : Run) → HasTask r (Center into new given count) listed → HasCenterTask r into new I budget
-  asks r task = record { given = given; count = count; listed = listed; task = task; counted = counted; in_force = in_force; within = within }
+-- Runs that ask for the task, and in which the watch was heard so often while it was done.
+module _ (into : ResultFiles) (new : List ℕ) (effort : Effort) (count : Option ℕ) (listed I : Instance) (given budget before after : ℕ) (a : CenterAnswer) (old last : ShelfState) (counted : I ≡ counted_by count listed)
+    (in_force : given ≡ budget_in listed effort.given) (within : given ≤ max_budget listed) (left : IsBudgetLeft given budget before after) (found : IsCenterFound I given budget a) where
+  abbrev Asks : Run → Type 0
+  Asks r = HasTask r (Center into new effort count) listed
 
-  pub asked_cause : {E : Type 0} (result : Result Reply E) → IfOk result (λ reply. (r : Run) → HasCenterTask r into new I budget → Covers r old last → IsCause r reply)
-      → IfOk result (λ reply. (r : Run) → HasTask r (Center into new given count) listed → Covers r old last → IsCause r reply)
-  asked_cause (Ok reply) cause = λ r task part. cause r (asks r task) part
+  -- the search that they ask for came to this
+  asks : (r : Run) → Heard Asks before after r → HasCenter r into new I budget a
+  asks r heard =
+      record {
+        given = given;
+        asked = record {
+          effort = effort;
+          count = count;
+          listed = listed;
+          task = heard.asked;
+          counted = counted;
+          in_force = in_force;
+          within = within;
+          left = heard_left r Asks before after given budget heard left;
+        };
+        found = found;
+      }
+
+  -- so a reply that has its cause for each run in which it did has it for each of them
+  pub asked_cause : {E : Type 0} (result : Result Reply E) → IfOk result (λ reply. (r : Run) → HasCenter r into new I budget a → Covers r old last → IsCause r reply)
+      → IfOk result (λ reply. (r : Run) → Heard Asks before after r → Covers r old last → IsCause r reply)
+  asked_cause (Ok reply) cause = λ r heard part. cause r (asks r heard) part
   asked_cause (Err fault) cause = tt
 
-  pub asked_keeps : ((r : Run) → HasCenterTask r into new I budget → Covers r old last → HasCenterBegun r into new) → (r : Run) → HasTask r (Center into new given count) listed → Covers r old last
-      → KeepsFiles r (Center into new given count)
-  asked_keeps begun r task part = inr (begun r (asks r task) part)
+  pub asked_keeps : ((r : Run) → HasCenter r into new I budget a → Covers r old last → HasCenterBegun r into new) → (r : Run) → Heard Asks before after r → Covers r old last
+      → KeepsFiles r (Center into new effort count)
+  asked_keeps begun r heard part = inr (begun r (asks r heard) part)
 
-pub none_kept : (r : Run) (into : ResultFiles) (new : List ℕ) (given count : Option ℕ) (old last : ShelfState) → Covers r old last → last.files ≡ old.files → KeepsFiles r (Center into new given count)
-none_kept r into new given count old last part same = inl (changes_none r old last part same)
+pub none_kept : (r : Run) (into : ResultFiles) (new : List ℕ) (effort : Effort) (count : Option ℕ) (old last : ShelfState) → Covers r old last → last.files ≡ old.files → KeepsFiles r (Center into new effort count)
+none_kept r into new effort count old last part same = inl (changes_none r old last part same)
 
-pub center_large : (r : Run) (into : ResultFiles) (new : List ℕ) (given count : Option ℕ) (I : Instance) → HasTask r (Center into new given count) I → max_budget I < budget_in I given → HasLargeBudget r
-center_large r into new given count I task large = large_for r (Center into new given count) given I task refl large
+pub center_large : (r : Run) (into : ResultFiles) (new : List ℕ) (effort : Effort) (count : Option ℕ) (I : Instance) → HasTask r (Center into new effort count) I → max_budget I < budget_in I effort.given
+    → HasLargeBudget r
+center_large r into new effort count I task large = large_for r (Center into new effort count) effort.given I task refl large
+
+-- what is never answered has any consequence
+pub never_refused : {E : Type 0} (S : Type 0) (result : Result Reply E) → IfOk result (λ reply. IsRefusalStatus (status_of reply) → ⊥) → IfOk result (λ reply. IsRefusalStatus (status_of reply) → S)
+never_refused S (Ok reply) never = λ refusal. absurd (never refusal)
+never_refused S (Err fault) never = tt

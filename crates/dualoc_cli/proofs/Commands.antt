@@ -14,11 +14,13 @@ use Rattle.instance_store.specs.Small.{IsSmall}
 use Rattle.instance_forms.specs.declared.form.FileForm.TheVariants.{Ufl}
 use Rattle.instance_forms.specs.Forms.{InstanceFile, instance_file, file_of, capacity_of}
 use Rattle.instance_forms.proofs.Meant.{file_small}
+use Rattle.watch_port.specs.declared.limits.Limits.{Limits}
+use Rattle.limit_words.specs.Limits.{no_limits, with_limit, limits_given}
 use Rattle.dualoc_cli.specs.declared.options.Options.{Options}
 use Rattle.dualoc_cli.specs.declared.options.Takes.{Takes}
 use Rattle.dualoc_cli.specs.declared.words.CostAt.{CostAt}
 use Rattle.dualoc_cli.specs.declared.words.CostAt.TheVariants.{Site, Lane}
-use Rattle.dualoc_cli.specs.Command.{Command, OnFile, OnTrial, into_files, Job, SolveShort, SolveLong, ShowDuals, Check, Convert, Session, ShowRange, range_on, fixed_range_command, lane_range_command, range_command, are_names, budget_of, options_with, given_once, with_option, options_from, options_of, no_budget, a_budget, job_on, on_files, solve_command, duals_command, check_command, convert_command, session_command, plain_count, are_trial_numbers, trial_of, trial_command, Center, Curve, few_sites, sites_count, count_in, a_budget_and_count, center_command, curve_of, curve_command, command_of}
+use Rattle.dualoc_cli.specs.Command.{Command, OnFile, OnTrial, into_files, Job, SolveShort, SolveLong, ShowDuals, Check, Convert, Session, ShowRange, range_on, fixed_range_command, lane_range_command, range_command, are_names, budget_of, options_with, given_once, limit_taken, effort_in, with_option, options_from, options_of, no_budget, a_budget, job_on, on_files, solve_command, duals_command, check_command, convert_command, session_command, plain_count, are_trial_numbers, trial_of, trial_command, Center, Curve, few_sites, sites_count, count_in, a_budget_and_count, center_command, curve_of, curve_command, command_of}
 use Rattle.dualoc_cli.specs.Step.{IsSuited, IsSound, HasFewCounts}
 
 -- The capacity that options give is an amount, and the number of open sites no more than an instance may have sites.
@@ -69,17 +71,21 @@ once_small true None given small = small
 once_small true (Some n) given small = tt
 once_small false before given small = tt
 
-budgeted_small : (budget count capacity : Option ℕ) → IsSmall capacity → IsFew count → AreSmall (option_map (λ n. options_with (Some n) count capacity) budget)
-budgeted_small None count capacity small few = tt
-budgeted_small (Some n) count capacity small few = (small, few)
+budgeted_small : (budget count : Option ℕ) (limits : Limits) (capacity : Option ℕ) → IsSmall capacity → IsFew count → AreSmall (option_map (λ n. options_with (Some n) count limits capacity) budget)
+budgeted_small None count limits capacity small few = tt
+budgeted_small (Some n) count limits capacity small few = (small, few)
 
-counted_small : (count budget capacity : Option ℕ) → IsSmall capacity → IsFew count → AreSmall (option_map (λ p. options_with budget (Some p) capacity) count)
-counted_small None budget capacity small few = tt
-counted_small (Some p) budget capacity small few = (small, few)
+counted_small : (count budget : Option ℕ) (limits : Limits) (capacity : Option ℕ) → IsSmall capacity → IsFew count → AreSmall (option_map (λ p. options_with budget (Some p) limits capacity) count)
+counted_small None budget limits capacity small few = tt
+counted_small (Some p) budget limits capacity small few = (small, few)
 
-capped_small : (capacity budget count : Option ℕ) → IsSmall capacity → IsFew count → AreSmall (option_map (λ a. options_with budget count (Some a)) capacity)
-capped_small None budget count small few = tt
-capped_small (Some a) budget count small few = (small, few)
+limited_small : (limits : Option Limits) (budget count capacity : Option ℕ) → IsSmall capacity → IsFew count → AreSmall (option_map (λ l. options_with budget count l capacity) limits)
+limited_small None budget count capacity small few = tt
+limited_small (Some l) budget count capacity small few = (small, few)
+
+capped_small : (capacity budget count : Option ℕ) (limits : Limits) → IsSmall capacity → IsFew count → AreSmall (option_map (λ a. options_with budget count limits (Some a)) capacity)
+capped_small None budget count limits small few = tt
+capped_small (Some a) budget count limits small few = (small, few)
 
 either_small : (one other : Option Options) → AreSmall one → AreSmall other → AreSmall (option_or one other)
 either_small None other h k = k
@@ -87,9 +93,10 @@ either_small (Some o) other h k = h
 
 with_small : (takes : Takes) (word : List ℕ) (old : Options) → HasSmallNumbers old → AreSmall (with_option takes word old)
 with_small takes word old small =
-    either_small _ _ (budgeted_small (given_once takes.budget old.budget (budget_of word)) old.count old.capacity small.0 small.1)
-    (either_small _ _ (counted_small (given_once takes.count old.count (count_in word)) old.budget old.capacity small.0 (few_once takes.count old.count (count_in word) (few_in word)))
-    (capped_small (given_once true old.capacity (capacity_of word)) old.budget old.count (once_small true old.capacity (capacity_of word) (capacity_small word)) small.1))
+    either_small _ _ (budgeted_small (given_once takes.budget old.budget (budget_of word)) old.count old.limits old.capacity small.0 small.1)
+    (either_small _ _ (counted_small (given_once takes.count old.count (count_in word)) old.budget old.limits old.capacity small.0 (few_once takes.count old.count (count_in word) (few_in word)))
+    (either_small _ _ (limited_small (limit_taken takes.limits word old.limits) old.budget old.count old.capacity small.0 small.1)
+    (capped_small (given_once true old.capacity (capacity_of word)) old.budget old.count old.limits (once_small true old.capacity (capacity_of word) (capacity_small word)) small.1)))
 
 next_small : (next : Options → Option Options) (more : Option Options) → AreSmall more → ((o : Options) → HasSmallNumbers o → AreSmall (next o)) → AreSmall (option_and_then next more)
 next_small next None small each = tt
@@ -102,7 +109,7 @@ from_small takes old (word ∷ words) small =
     next_small (λ o. options_from takes o words) (with_option takes word old) (with_small takes word old small) (λ o s. from_small takes o words s)
 
 pub options_small : (takes : Takes) (words : List (List ℕ)) → AreSmall (options_of takes words)
-options_small takes words = from_small takes (options_with None None None) words (tt, tt)
+options_small takes words = from_small takes (options_with None None no_limits None) words (tt, tt)
 
 -- Commands.
 
@@ -148,7 +155,7 @@ solve_sound (a ∷ []) = tt
 solve_sound (form ∷ name ∷ []) = short_sound _ name
 solve_sound (a ∷ b ∷ c ∷ []) = tt
 solve_sound (form ∷ name ∷ plan ∷ certificate ∷ options) =
-    files_sound form name (plan ∷ certificate ∷ []) a_budget (λ o. SolveLong (into_files plan certificate) o.budget) options (λ o same. cc) (λ o few. tt)
+    files_sound form name (plan ∷ certificate ∷ []) a_budget (λ o. SolveLong (into_files plan certificate) (effort_in o)) options (λ o same. cc) (λ o few. tt)
 
 duals_sound : (words : List (List ℕ)) → Sound (duals_command words)
 unfolding duals_command
@@ -220,23 +227,26 @@ trial_sizes seed m n numbers = record {
   few_lanes = grind (arith, nat_tests);
 }
 
-sizes_sound : (within : Bool) (seed m n : ℕ) → (within ≡ true → AreSizes m n) → Sound (if within then Some (OnTrial seed m n) else None)
-sizes_sound true seed m n sizes = sizes refl
-sizes_sound false seed m n sizes = tt
+limited_sound : (seed m n : ℕ) (limits : Option Limits) → AreSizes m n → Sound (option_map (OnTrial seed m n) limits)
+limited_sound seed m n None sizes = tt
+limited_sound seed m n (Some limits) sizes = sizes
 
-numbers_sound : (seed m n : Option ℕ) → Sound (option_and_then (λ s. option_and_then (λ sites. option_and_then (λ customers. trial_of s sites customers) n) m) seed)
-numbers_sound None m n = tt
-numbers_sound (Some s) None n = tt
-numbers_sound (Some s) (Some sites) None = tt
-numbers_sound (Some s) (Some sites) (Some customers) = sizes_sound (are_trial_numbers s sites customers) s sites customers (trial_sizes s sites customers)
+sizes_sound : (within : Bool) (seed m n : ℕ) (limits : Option Limits) → (within ≡ true → AreSizes m n) → Sound (if within then option_map (OnTrial seed m n) limits else None)
+sizes_sound true seed m n limits sizes = limited_sound seed m n limits (sizes refl)
+sizes_sound false seed m n limits sizes = tt
+
+numbers_sound : (words : List (List ℕ)) (seed m n : Option ℕ) → Sound (option_and_then (λ s. option_and_then (λ sites. option_and_then (λ customers. trial_of s sites customers words) n) m) seed)
+numbers_sound words None m n = tt
+numbers_sound words (Some s) None n = tt
+numbers_sound words (Some s) (Some sites) None = tt
+numbers_sound words (Some s) (Some sites) (Some customers) = sizes_sound (are_trial_numbers s sites customers) s sites customers (limits_given words) (trial_sizes s sites customers)
 
 trial_sound : (words : List (List ℕ)) → Sound (trial_command words)
 unfolding trial_command
 trial_sound [] = tt
 trial_sound (a ∷ []) = tt
 trial_sound (a ∷ b ∷ []) = tt
-trial_sound (seed ∷ m ∷ n ∷ []) = numbers_sound (plain_count seed) (plain_count m) (plain_count n)
-trial_sound (a ∷ b ∷ c ∷ d ∷ rest) = tt
+trial_sound (seed ∷ m ∷ n ∷ words) = numbers_sound words (plain_count seed) (plain_count m) (plain_count n)
 
 center_sound : (words : List (List ℕ)) → Sound (center_command words)
 unfolding center_command
@@ -246,12 +256,12 @@ center_sound (a ∷ b ∷ []) = tt
 center_sound (a ∷ b ∷ c ∷ []) = tt
 center_sound (a ∷ b ∷ c ∷ d ∷ []) = tt
 center_sound (form ∷ name ∷ plan ∷ certificate ∷ new ∷ options) =
-    files_sound form name (plan ∷ certificate ∷ new ∷ []) a_budget_and_count (λ o. Center (into_files plan certificate) new o.budget o.count) options (λ o same. cc) (λ o few. few)
+    files_sound form name (plan ∷ certificate ∷ new ∷ []) a_budget_and_count (λ o. Center (into_files plan certificate) new (effort_in o) o.count) options (λ o same. cc) (λ o few. few)
 
 -- the numbers of sites of a curve
 rising_sound : (form name : List ℕ) (first last : ℕ) (options : List (List ℕ)) (rises : Bool) → (rises ≡ true → (first ≤ last) × (last ≤ MAX_SITES))
-    → Sound (if rises then on_files form name [] a_budget (λ o. Curve first last o.budget) options else None)
-rising_sound form name first last options true numbers = files_sound form name [] a_budget (λ o. Curve first last o.budget) options (λ o same. cc) (λ o few. numbers refl)
+    → Sound (if rises then on_files form name [] a_budget (λ o. Curve first last (effort_in o)) options else None)
+rising_sound form name first last options true numbers = files_sound form name [] a_budget (λ o. Curve first last (effort_in o)) options (λ o same. cc) (λ o few. numbers refl)
 rising_sound form name first last options false numbers = tt
 
 counts_sound : (form name : List ℕ) (options : List (List ℕ)) (first last : Option ℕ) → IsFew last → Sound (option_and_then (λ a. option_and_then (λ b. curve_of form name a b options) last) first)

@@ -42,6 +42,9 @@ use Rattle.dualoc_cli.specs.declared.reply.Refusal.{Refusal}
 use Rattle.dualoc_cli.specs.declared.reply.Refusal.TheVariants.{LongInstance, Faulty, ManySites, LargeBudget, LongCertificate, LongLine, LongInput, NoSite, NoCustomer, NoLane}
 use Rattle.dualoc_cli.specs.declared.reply.Outcome.{Outcome}
 use Rattle.dualoc_cli.specs.declared.reply.Outcome.TheVariants.{Optimum, Searched, Tried, Ascent, Misspelt, Judged, Converted, Ended, Ranged, NoOptimalClaim, Centered, Drawn}
+use Rattle.watch_port.specs.Left.{IsBudgetLeft}
+use Rattle.watch_port.proofs.Counts.{left_whole}
+use Rattle.dualoc_cli.specs.declared.options.Effort.{Effort}
 use Rattle.dualoc_cli.specs.Command.{Command, OnFile, OnTrial, ResultFiles, Job, SolveShort, SolveLong, ShowDuals, Check, Convert, Session, ShowRange, Center, Curve, command_of}
 use Rattle.dualoc_cli.specs.declared.reply.CenterEnd.{CenterEnd}
 use Rattle.center_solve.specs.declared.answer.CenterAnswer.{CenterAnswer}
@@ -49,7 +52,7 @@ use Rattle.center_solve.specs.declared.answer.CenterAnswer.TheVariants as center
 use Rattle.center_solve.specs.Center.{HasEndedSearch}
 use Rattle.dualoc_cli.specs.Status.{when_cut}
 use Rattle.dualoc_cli.specs.Reply.{failed_status, refused_status, outcome_status, status_of, status_of_claim, center_status, text_of}
-use Rattle.dualoc_cli.specs.Run.{Run, AsksFor, HasTask, HasFileFault}
+use Rattle.dualoc_cli.specs.Run.{Run, IsQuiet, AsksFor, HasTask, HasFileFault}
 use Rattle.dualoc_cli.specs.Solve.{HasManySites}
 use Rattle.dualoc_cli.specs.Search.{budget_given, HasLargeBudget, IsSearched, IsEnd, EndsSearch}
 use Rattle.dualoc_cli.specs.Check.{IsAnswered, DeservesYes, IsChecked}
@@ -109,17 +112,17 @@ data Due : Type 0 where
   AsInput : Due
 
 -- the status suits what is due, of an input of which this is told
-abbrev Suits : Option (List ℕ) → Due → Status → Type 0
-Suits input (Exactly due) status = status ≡ due
-Suits input (Search I budget) status = (status ≡ Done) ⊎ ((status ≡ Infeasible) ⊎ ((status ≡ Bracket) × (budget < 2 ^ (most_decisions I + 1))))
-Suits input (Trial I budget) status = (status ≡ Done) ⊎ ((status ≡ Bracket) × (budget < 2 ^ (most_decisions I + 1)))
-Suits input AsInput status = (stop : Stop) × MayEnd input stop × (status ≡ stop_status stop)
+abbrev Suits : (quiet : Type 0) → Option (List ℕ) → Due → Status → Type 0
+Suits quiet input (Exactly due) status = status ≡ due
+Suits quiet input (Search I budget) status = (status ≡ Done) ⊎ ((status ≡ Infeasible) ⊎ ((status ≡ Bracket) × (quiet → budget < 2 ^ (most_decisions I + 1))))
+Suits quiet input (Trial I budget) status = (status ≡ Done) ⊎ ((status ≡ Bracket) × (quiet → budget < 2 ^ (most_decisions I + 1)))
+Suits quiet input AsInput status = (stop : Stop) × MayEnd input stop × (status ≡ stop_status stop)
 
-some_suits : (input : Option (List ℕ)) (due : Due) → (status : Status) × Suits input due status
-some_suits input (Exactly due) = (due, refl)
-some_suits input (Search I budget) = (Done, inl refl)
-some_suits input (Trial I budget) = (Done, inl refl)
-some_suits input AsInput = let ends = some_end input in (stop_status ends.0, (ends.0, ends.1, refl))
+some_suits : (quiet : Type 0) (input : Option (List ℕ)) (due : Due) → (status : Status) × Suits quiet input due status
+some_suits quiet input (Exactly due) = (due, refl)
+some_suits quiet input (Search I budget) = (Done, inl refl)
+some_suits quiet input (Trial I budget) = (Done, inl refl)
+some_suits quiet input AsInput = let ends = some_end input in (stop_status ends.0, (ends.0, ends.1, refl))
 
 module _ (r : Run) where
   pub no_command : (command : Command) → command_of r.words ≡ None → command_of r.words ≡ Some command → ⊥
@@ -139,10 +142,10 @@ module _ (r : Run) where
   port_words port.Instance cause = inr (OnFile cause.file cause.job, cause.words_are)
   port_words port.Certificate (inl cause) = task_words (Check cause.name) cause.instance cause.task
   port_words port.Certificate (inr cause) = task_words (ShowRange cause.name cause.at) cause.instance cause.task
-  port_words port.Result cause = task_words (SolveLong cause.into cause.result.asked.given) cause.instance cause.result.asked.task
+  port_words port.Result cause = task_words (SolveLong cause.into cause.result.asked.effort) cause.instance cause.result.asked.task
   port_words port.New cause = task_words (Convert cause.new) cause.begun.instance cause.begun.task
   port_words port.Input cause = task_words Session cause.1.instance cause.1.task
-  port_words port.Center cause = let asked = cause.result.asked in task_words (Center cause.into cause.new asked.given asked.count) asked.listed asked.task
+  port_words port.Center cause = let asked = cause.result.asked in task_words (Center cause.into cause.new asked.effort asked.count) asked.listed asked.task
 
   refused_words : {S : Type 0} (refusal : Refusal) → IsRefused r refusal → S ⊎ ((command : Command) × (command_of r.words ≡ Some command))
   refused_words LongInstance cause = inr (OnFile cause.file cause.job, cause.asked.words_are)
@@ -159,8 +162,8 @@ module _ (r : Run) where
 
   reached_words : {S : Type 0} (outcome : Outcome) → IsOutcomeOf r outcome → S ⊎ ((command : Command) × (command_of r.words ≡ Some command))
   reached_words (Optimum I P cost) cause = task_words SolveShort I cause.task
-  reached_words (Searched claim nodes budget) cause = task_words (SolveLong cause.into cause.result.asked.given) cause.instance cause.result.asked.task
-  reached_words (Tried claim nodes budget opened) cause = inr (OnTrial cause.trial.seed cause.trial.sites cause.trial.customers, cause.trial.words_are)
+  reached_words (Searched claim nodes budget) cause = task_words (SolveLong cause.into cause.result.asked.effort) cause.instance cause.result.asked.task
+  reached_words (Tried claim nodes budget opened) cause = inr (OnTrial cause.trial.seed cause.trial.sites cause.trial.customers cause.trial.limits, cause.trial.words_are)
   reached_words (Ascent I d) cause = task_words ShowDuals I cause.task
   reached_words (Misspelt kind line) (inl cause) = task_words (Check cause.name) cause.instance cause.task
   reached_words (Misspelt kind line) (inr cause) = asked_words cause.instance cause.at cause.bytes cause.asked
@@ -171,8 +174,8 @@ module _ (r : Run) where
   reached_words Ended cause = task_words Session cause.1.instance cause.1.task
   reached_words (Ranged range) cause = proof_words cause.instance cause.at (optimum_of cause.instance cause.plan cause.tree) cause.proof
   reached_words NoOptimalClaim cause = proof_words cause.instance cause.at cause.cert cause.proof
-  reached_words (Centered end) cause = let asked = cause.result.asked in task_words (Center cause.into cause.new asked.given asked.count) asked.listed asked.task
-  reached_words Drawn cause = let row = cause.1.row_is in task_words (Curve row.first row.last row.asked.given) row.instance row.asked.task
+  reached_words (Centered end) cause = let asked = cause.result.asked in task_words (Center cause.into cause.new asked.effort asked.count) asked.listed asked.task
+  reached_words Drawn cause = let row = cause.1.row_is in task_words (Curve row.first row.last row.asked.effort) row.instance row.asked.task
 
   pub words_are : (reply : Reply) → IsCause r reply → (status_of reply ≡ Usage) ⊎ ((command : Command) × (command_of r.words ≡ Some command))
   words_are NoCommand cause = inl refl
@@ -183,16 +186,16 @@ module _ (r : Run) where
   -- what is due for an instance
   abbrev Worked : Job → Instance → Due → Type 0
   Worked SolveShort I due = due ≡ (if nat_lt MAX_WALK_SITES (length I.sites) then Exactly TooLarge else Exactly Done)
-  Worked (SolveLong into given) I due = due ≡ (if nat_lt (max_budget I) (budget_in I given) then Exactly TooLarge else Search I (budget_in I given))
+  Worked (SolveLong into effort) I due = due ≡ (if nat_lt (max_budget I) (budget_in I effort.given) then Exactly TooLarge else Search I (budget_in I effort.given))
   Worked ShowDuals I due = due ≡ Exactly Done
   Worked (Check name) I due =
       (bytes : List ℕ) × MayHold r.before.shelf.files name bytes × ((answer : Answer) × IsAnswer MAX_CERTIFICATE_BYTES I bytes answer × (due ≡ Exactly (status_in answer)))
   Worked (Convert new) I due = due ≡ Exactly Done
   Worked Session I due = due ≡ AsInput
   Worked (ShowRange name at) I due = (bytes : List ℕ) × MayHold r.before.shelf.files name bytes × RangeDue I at bytes (λ status. due ≡ Exactly status)
-  Worked (Center into new given count) I due =
-      due ≡ (if nat_lt (max_budget I) (budget_in I given) then Exactly TooLarge else Search (counted_by count I) (budget_in I given))
-  Worked (Curve first last given) I due = due ≡ (if nat_lt (max_budget I) (budget_in I given) then Exactly TooLarge else Exactly Done)
+  Worked (Center into new effort count) I due =
+      due ≡ (if nat_lt (max_budget I) (budget_in I effort.given) then Exactly TooLarge else Search (counted_by count I) (budget_in I effort.given))
+  Worked (Curve first last effort) I due = due ≡ (if nat_lt (max_budget I) (budget_in I effort.given) then Exactly TooLarge else Exactly Done)
 
   abbrev Meant : Job → Result Instance FileFault → Due → Type 0
   Meant job (Ok I) due = Worked job I due
@@ -293,12 +296,12 @@ module _ (r : Run) where
   none_given budget gives = absurd cc
 
   large_due : (job : Job) (I : Instance) (budget : ℕ) → HasTask r job I → budget_given job ≡ Some budget → max_budget I < budget → IsDue (Exactly TooLarge)
-  large_due (SolveLong into given) I budget task gives large =
-      task_is_due (SolveLong into given) I (Exactly TooLarge) task (too_large I given budget (Search I (budget_in I given)) gives large)
-  large_due (Center into new given count) I budget task gives large =
-      task_is_due (Center into new given count) I (Exactly TooLarge) task (too_large I given budget (Search (counted_by count I) (budget_in I given)) gives large)
-  large_due (Curve first last given) I budget task gives large =
-      task_is_due (Curve first last given) I (Exactly TooLarge) task (too_large I given budget (Exactly Done) gives large)
+  large_due (SolveLong into effort) I budget task gives large =
+      task_is_due (SolveLong into effort) I (Exactly TooLarge) task (too_large I effort.given budget (Search I (budget_in I effort.given)) gives large)
+  large_due (Center into new effort count) I budget task gives large =
+      task_is_due (Center into new effort count) I (Exactly TooLarge) task (too_large I effort.given budget (Search (counted_by count I) (budget_in I effort.given)) gives large)
+  large_due (Curve first last effort) I budget task gives large =
+      task_is_due (Curve first last effort) I (Exactly TooLarge) task (too_large I effort.given budget (Exactly Done) gives large)
   large_due SolveShort I budget task gives large = none_given budget gives
   large_due ShowDuals I budget task gives large = none_given budget gives
   large_due (Check name) I budget task gives large = none_given budget gives
@@ -309,10 +312,10 @@ module _ (r : Run) where
   large_is_due : HasLargeBudget r → IsDue (Exactly TooLarge)
   large_is_due a = large_due a.job a.instance a.budget a.task a.gives a.large
 
-  search_is_due : (into : ResultFiles) (given : Option ℕ) (I : Instance) → HasTask r (SolveLong into given) I → budget_in I given ≤ max_budget I → IsDue (Search I (budget_in I given))
-  search_is_due into given I task within =
-      task_is_due (SolveLong into given) I (Search I (budget_in I given)) task
-      (sym (cond-false (nat_lt (max_budget I) (budget_in I given)) (Exactly TooLarge) (Search I (budget_in I given)) (not_above (budget_in I given) (max_budget I) within)))
+  search_is_due : (into : ResultFiles) (effort : Effort) (I : Instance) → HasTask r (SolveLong into effort) I → budget_in I effort.given ≤ max_budget I → IsDue (Search I (budget_in I effort.given))
+  search_is_due into effort I task within =
+      task_is_due (SolveLong into effort) I (Search I (budget_in I effort.given)) task
+      (sym (cond-false (nat_lt (max_budget I) (budget_in I effort.given)) (Exactly TooLarge) (Search I (budget_in I effort.given)) (not_above (budget_in I effort.given) (max_budget I) within)))
 
   duals_are_due : (I : Instance) → HasTask r ShowDuals I → IsDue (Exactly Done)
   duals_are_due I task = task_is_due ShowDuals I (Exactly Done) task refl
@@ -320,21 +323,21 @@ module _ (r : Run) where
   conversion_is_due : (new : List ℕ) (I : Instance) → HasTask r (Convert new) I → IsDue (Exactly Done)
   conversion_is_due new I task = task_is_due (Convert new) I (Exactly Done) task refl
 
-  center_is_due : (into : ResultFiles) (new : List ℕ) (given count : Option ℕ) (I : Instance) → HasTask r (Center into new given count) I → budget_in I given ≤ max_budget I
-      → IsDue (Search (counted_by count I) (budget_in I given))
-  center_is_due into new given count I task within =
-      task_is_due (Center into new given count) I (Search (counted_by count I) (budget_in I given)) task
-      (sym (cond-false (nat_lt (max_budget I) (budget_in I given)) (Exactly TooLarge) (Search (counted_by count I) (budget_in I given)) (not_above (budget_in I given) (max_budget I) within)))
+  center_is_due : (into : ResultFiles) (new : List ℕ) (effort : Effort) (count : Option ℕ) (I : Instance) → HasTask r (Center into new effort count) I → budget_in I effort.given ≤ max_budget I
+      → IsDue (Search (counted_by count I) (budget_in I effort.given))
+  center_is_due into new effort count I task within =
+      task_is_due (Center into new effort count) I (Search (counted_by count I) (budget_in I effort.given)) task
+      (sym (cond-false (nat_lt (max_budget I) (budget_in I effort.given)) (Exactly TooLarge) (Search (counted_by count I) (budget_in I effort.given)) (not_above (budget_in I effort.given) (max_budget I) within)))
 
-  curve_is_due : (first last : ℕ) (given : Option ℕ) (I : Instance) → HasTask r (Curve first last given) I → budget_in I given ≤ max_budget I → IsDue (Exactly Done)
-  curve_is_due first last given I task within =
-      task_is_due (Curve first last given) I (Exactly Done) task
-      (sym (cond-false (nat_lt (max_budget I) (budget_in I given)) (Exactly TooLarge) (Exactly Done) (not_above (budget_in I given) (max_budget I) within)))
+  curve_is_due : (first last : ℕ) (effort : Effort) (I : Instance) → HasTask r (Curve first last effort) I → budget_in I effort.given ≤ max_budget I → IsDue (Exactly Done)
+  curve_is_due first last effort I task within =
+      task_is_due (Curve first last effort) I (Exactly Done) task
+      (sym (cond-false (nat_lt (max_budget I) (budget_in I effort.given)) (Exactly TooLarge) (Exactly Done) (not_above (budget_in I effort.given) (max_budget I) within)))
 
   row_is_due : (row : List ℕ) → IsCurveRow r row → IsDue (Exactly Done)
   row_is_due row drawn =
       let asked = drawn.asked in
-      curve_is_due drawn.first drawn.last asked.given drawn.instance asked.task (subst (λ b. b ≤ max_budget drawn.instance) asked.in_force asked.within)
+      curve_is_due drawn.first drawn.last asked.effort drawn.instance asked.task (subst (λ b. b ≤ max_budget drawn.instance) asked.in_force asked.within)
 
   session_is_due : (I : Instance) → HasTask r Session I → IsDue AsInput
   session_is_due I task = task_is_due Session I AsInput task refl
@@ -351,65 +354,72 @@ module _ (r : Run) where
       task_is_due (Check name) I (Exactly Done) task
       (certificate_text I cert, held, (Ok (Yes cert.claim), accepted_yes_within MAX_CERTIFICATE_BYTES I cert (task_valid r (Check name) I task) deserved.accepted deserved.small deserved.within, refl))
 
-  -- the status of a claim is one that a search ends with; its tree is small, and with a bracket so is its budget
-  claim_suits : (I : Instance) (budget : ℕ) (claim : Claim) (plan : Option Plan) (tree : Tree) (made : ℕ) → IsEnd I budget claim plan tree made
-      → nodes_of tree ≡ 1 + made → nodes_of tree + 1 ≤ 2 ^ (most_decisions I + 1) → Suits told_input (Search I budget) (status_of_claim claim)
-  claim_suits I budget (claimed.Optimal cost) plan tree made end nodes small = inl refl
-  claim_suits I budget claimed.Infeasible plan tree made end nodes small = inr (inl refl)
-  claim_suits I budget (claimed.Bracket low high) plan tree made end nodes small = let spent = end.spent in inr (inr (refl, omega (arith, small, nodes, spent)))
+  -- where the watch said nothing, all of the budget is left
+  all_left : (given budget : ℕ) → IsBudgetLeft given budget r.before.heard r.after.heard → IsQuiet r → budget ≡ given
+  all_left given budget left quiet = left_whole given budget r.before.heard (subst (λ h. IsBudgetLeft given budget r.before.heard h) quiet left)
 
-  stored_suits : (claim : Claim) (nodes budget : ℕ) (a : IsSearched r claim nodes budget) → Suits told_input (Search a.instance budget) (status_of_claim claim)
+  -- the status of a claim is one that a search ends with; its tree is small, and with a bracket so is its budget, where that is the given one
+  claim_suits : (I : Instance) (given budget : ℕ) (claim : Claim) (plan : Option Plan) (tree : Tree) (made : ℕ) → (IsQuiet r → budget ≡ given) → IsEnd I budget claim plan tree made
+      → nodes_of tree ≡ 1 + made → nodes_of tree + 1 ≤ 2 ^ (most_decisions I + 1) → Suits (IsQuiet r) told_input (Search I given) (status_of_claim claim)
+  claim_suits I given budget (claimed.Optimal cost) plan tree made all end nodes small = inl refl
+  claim_suits I given budget claimed.Infeasible plan tree made all end nodes small = inr (inl refl)
+  claim_suits I given budget (claimed.Bracket low high) plan tree made all end nodes small = inr (inr (refl, λ quiet. let spent = end.spent in let same = all quiet in omega (arith, small, nodes, spent, same)))
+
+  abbrev stored_due : (claim : Claim) (nodes budget : ℕ) → IsSearched r claim nodes budget → Due
+  stored_due claim nodes budget a = Search a.instance (budget_in a.instance a.result.asked.effort.given)
+
+  stored_suits : (claim : Claim) (nodes budget : ℕ) (a : IsSearched r claim nodes budget) → Suits (IsQuiet r) told_input (stored_due claim nodes budget a) (status_of_claim claim)
   stored_suits claim nodes budget a =
       let found = a.result.found in
-      claim_suits a.instance budget claim a.cert.plan a.cert.tree found.made (subst (λ c. IsEnd a.instance budget c a.cert.plan a.cert.tree found.made) a.claims found.end)
+      let given : ℕ = budget_in a.instance a.result.asked.effort.given in
+      claim_suits a.instance given budget claim a.cert.plan a.cert.tree found.made (all_left given budget a.result.asked.left) (subst (λ c. IsEnd a.instance budget c a.cert.plan a.cert.tree found.made) a.claims found.end)
       found.nodes_are (tree_small a.instance (cost_in a.instance a.cert.plan) a.cert.tree found.grown)
 
-  stored_is_due : (claim : Claim) (nodes budget : ℕ) (a : IsSearched r claim nodes budget) → IsDue (Search a.instance budget)
-  stored_is_due claim nodes budget a =
-      let asked = a.result.asked in
-      subst (λ b. IsDue (Search a.instance b)) (sym asked.in_force)
-      (search_is_due a.into asked.given a.instance asked.task (subst (λ b. b ≤ max_budget a.instance) asked.in_force asked.within))
+  stored_is_due : (claim : Claim) (nodes budget : ℕ) (a : IsSearched r claim nodes budget) → IsDue (stored_due claim nodes budget a)
+  stored_is_due claim nodes budget a = let asked = a.result.asked in search_is_due a.into asked.effort a.instance asked.task asked.within
 
   trial_is_due : (I : Instance) → HasTrial r I → IsDue (Trial I (budget_in I None))
   trial_is_due I trial = inr (inr (I, trial, refl))
 
   -- a claim that comes with a plan is one that a trial ends with
-  planned_suits : (I : Instance) (budget : ℕ) (claim : Claim) (P : Plan) (plan : Option Plan) (tree : Tree) (made : ℕ) → HasPlan I claim P → IsEnd I budget claim plan tree made
-      → nodes_of tree ≡ 1 + made → nodes_of tree + 1 ≤ 2 ^ (most_decisions I + 1) → Suits told_input (Trial I budget) (status_of_claim claim)
-  planned_suits I budget (claimed.Optimal cost) P plan tree made has end nodes small = inl refl
-  planned_suits I budget claimed.Infeasible P plan tree made has end nodes small = absurd has
-  planned_suits I budget (claimed.Bracket low high) P plan tree made has end nodes small = let spent = end.spent in inr (refl, omega (arith, small, nodes, spent))
+  planned_suits : (I : Instance) (given budget : ℕ) (claim : Claim) (P : Plan) (plan : Option Plan) (tree : Tree) (made : ℕ) → (IsQuiet r → budget ≡ given) → HasPlan I claim P → IsEnd I budget claim plan tree made
+      → nodes_of tree ≡ 1 + made → nodes_of tree + 1 ≤ 2 ^ (most_decisions I + 1) → Suits (IsQuiet r) told_input (Trial I given) (status_of_claim claim)
+  planned_suits I given budget (claimed.Optimal cost) P plan tree made all has end nodes small = inl refl
+  planned_suits I given budget claimed.Infeasible P plan tree made all has end nodes small = absurd has
+  planned_suits I given budget (claimed.Bracket low high) P plan tree made all has end nodes small = inr (refl, λ quiet. let spent = end.spent in let same = all quiet in omega (arith, small, nodes, spent, same))
 
-  tried_suits : (claim : Claim) (nodes budget opened : ℕ) (a : IsTrialAnswer r claim nodes budget opened) → Suits told_input (Trial a.instance budget) (status_of_claim claim)
+  tried_suits : (claim : Claim) (nodes budget opened : ℕ) (a : IsTrialAnswer r claim nodes budget opened) → Suits (IsQuiet r) told_input (Trial a.instance (budget_in a.instance None)) (status_of_claim claim)
   tried_suits claim nodes budget opened a =
       let found = a.found in
-      planned_suits a.instance budget claim a.plan a.cert.plan a.cert.tree found.made a.has_plan (subst (λ c. IsEnd a.instance budget c a.cert.plan a.cert.tree found.made) a.claims found.end)
+      let given : ℕ = budget_in a.instance None in
+      planned_suits a.instance given budget claim a.plan a.cert.plan a.cert.tree found.made (all_left given budget a.left) a.has_plan (subst (λ c. IsEnd a.instance budget c a.cert.plan a.cert.tree found.made) a.claims found.end)
       found.nodes_are (tree_small a.instance (cost_in a.instance a.cert.plan) a.cert.tree found.grown)
 
-  tried_is_due : (claim : Claim) (nodes budget opened : ℕ) (a : IsTrialAnswer r claim nodes budget opened) → IsDue (Trial a.instance budget)
-  tried_is_due claim nodes budget opened a = subst (λ b. IsDue (Trial a.instance b)) (sym a.in_force) (trial_is_due a.instance a.trial)
+  tried_is_due : (claim : Claim) (nodes budget opened : ℕ) (a : IsTrialAnswer r claim nodes budget opened) → IsDue (Trial a.instance (budget_in a.instance None))
+  tried_is_due claim nodes budget opened a = trial_is_due a.instance a.trial
 
   -- so is what a search for a center ends with
-  answer_suits : (I : Instance) (budget : ℕ) (answer : CenterAnswer) → (2 ^ (most_decisions I + 1) ≤ budget → HasEndedSearch answer)
-      → Suits told_input (Search I budget) (center_status (center_end I budget answer))
-  answer_suits I budget (centers.Best radius plan tree) decided = inl refl
-  answer_suits I budget (centers.Infeasible tree) decided = inr (inl refl)
-  answer_suits I budget (centers.Open low plan tree at probe) decided = inr (inr (refl, below_unless (2 ^ (most_decisions I + 1)) budget decided))
+  answer_suits : (I : Instance) (given budget : ℕ) (answer : CenterAnswer) → (IsQuiet r → budget ≡ given) → (2 ^ (most_decisions I + 1) ≤ budget → HasEndedSearch answer)
+      → Suits (IsQuiet r) told_input (Search I given) (center_status (center_end I budget answer))
+  answer_suits I given budget (centers.Best radius plan tree) all decided = inl refl
+  answer_suits I given budget (centers.Infeasible tree) all decided = inr (inl refl)
+  answer_suits I given budget (centers.Open low plan tree at probe) all decided =
+      inr (inr (refl, λ quiet. subst (λ b. b < 2 ^ (most_decisions I + 1)) (all quiet) (below_unless (2 ^ (most_decisions I + 1)) budget decided)))
 
-  centered_suits : (end : CenterEnd) (a : IsCentered r end) → Suits told_input (Search a.instance a.budget) (center_status end)
+  centered_suits : (end : CenterEnd) (a : IsCentered r end) → Suits (IsQuiet r) told_input (Search a.instance a.result.given) (center_status end)
   centered_suits end a =
-      subst (λ e. Suits told_input (Search a.instance a.budget) (center_status e)) a.ends (answer_suits a.instance a.budget a.answer a.result.found.decided)
+      subst (λ e. Suits (IsQuiet r) told_input (Search a.instance a.result.given) (center_status e)) a.ends (answer_suits a.instance a.result.given a.budget a.answer (all_left a.result.given a.budget a.result.asked.left) a.result.found.decided)
 
-  centered_is_due : (end : CenterEnd) (a : IsCentered r end) → IsDue (Search a.instance a.budget)
+  centered_is_due : (end : CenterEnd) (a : IsCentered r end) → IsDue (Search a.instance a.result.given)
   centered_is_due end a =
       let asked = a.result.asked in
       subst (λ b. IsDue (Search a.instance b)) (sym asked.in_force)
-      (subst (λ I. IsDue (Search I (budget_in asked.listed asked.given))) (sym asked.counted)
-      (center_is_due a.into a.new asked.given asked.count asked.listed asked.task (subst (λ b. b ≤ max_budget asked.listed) asked.in_force asked.within)))
+      (subst (λ I. IsDue (Search I (budget_in asked.listed asked.effort.given))) (sym asked.counted)
+      (center_is_due a.into a.new asked.effort asked.count asked.listed asked.task (subst (λ b. b ≤ max_budget asked.listed) asked.in_force asked.within)))
 
   -- what a command came to suits what is due
   abbrev SuitsDue : Status → Type 0
-  SuitsDue status = (due : Due) × IsDue due × Suits told_input due status
+  SuitsDue status = (due : Due) × IsDue due × Suits (IsQuiet r) told_input due status
 
   -- a session that its input ended
   ended_suits : (stop : Stop) (at : StopsAt r stop) → IsDueStop session_limits at.1.run.bytes stop → SuitsDue (stop_status stop)
@@ -433,8 +443,8 @@ module _ (r : Run) where
   reached_is_due : (outcome : Outcome) → IsOutcomeOf r outcome → SuitsDue (outcome_status outcome)
   unfolding status_in
   reached_is_due (Optimum I P cost) cause = (Exactly Done, few_is_due I cause.task cause.few, refl)
-  reached_is_due (Searched claim nodes budget) cause = (Search cause.instance budget, stored_is_due claim nodes budget cause, stored_suits claim nodes budget cause)
-  reached_is_due (Tried claim nodes budget opened) cause = (Trial cause.instance budget, tried_is_due claim nodes budget opened cause, tried_suits claim nodes budget opened cause)
+  reached_is_due (Searched claim nodes budget) cause = (stored_due claim nodes budget cause, stored_is_due claim nodes budget cause, stored_suits claim nodes budget cause)
+  reached_is_due (Tried claim nodes budget opened) cause = (Trial cause.instance (budget_in cause.instance None), tried_is_due claim nodes budget opened cause, tried_suits claim nodes budget opened cause)
   reached_is_due (Ascent I d) cause = (Exactly Done, duals_are_due I cause.task, refl)
   reached_is_due (Misspelt kind line) (inl cause) = (Exactly CheckNo, answer_is_due (Err (Text kind line)) cause, refl)
   reached_is_due (Misspelt kind line) (inr cause) = (Exactly CheckNo, proof_answer_is_due (Err (Text kind line)) CheckNo cause refl, refl)
@@ -445,7 +455,7 @@ module _ (r : Run) where
   reached_is_due Ended cause = ended_suits AtEnd cause cause.1.run.stops.0
   reached_is_due (Ranged range) cause = (Exactly Done, range_is_due range cause, refl)
   reached_is_due NoOptimalClaim cause = (Exactly CheckNo, no_optimum_is_due cause, refl)
-  reached_is_due (Centered end) cause = (Search cause.instance cause.budget, centered_is_due end cause, centered_suits end cause)
+  reached_is_due (Centered end) cause = (Search cause.instance cause.result.given, centered_is_due end cause, centered_suits end cause)
   reached_is_due Drawn cause = (Exactly Done, row_is_due cause.0 cause.1.row_is, refl)
 
   abbrev HasDue : Status → Type 0
@@ -509,7 +519,7 @@ module _ (r : Run) where
 
     worked_once : (job : Job) (I : Instance) (s t : Due) → Worked job I s → Worked job I t → s ≡ t
     worked_once SolveShort I s t p q = p ∙ sym q
-    worked_once (SolveLong into given) I s t p q = p ∙ sym q
+    worked_once (SolveLong into effort) I s t p q = p ∙ sym q
     worked_once ShowDuals I s t p q = p ∙ sym q
     worked_once (Check name) I s t p q =
         let same : q.0 ≡ p.0 = same_bytes name q.0 p.0 q.1 p.1 in
@@ -520,8 +530,8 @@ module _ (r : Run) where
     worked_once (ShowRange name at) I s t p q =
         let same : q.0 ≡ p.0 = same_bytes name q.0 p.0 q.1 p.1 in
         range_due_once Exactly I at p.0 s t p.2 (subst (λ bytes. RangeDue I at bytes (λ status. t ≡ Exactly status)) same q.2)
-    worked_once (Center into new given count) I s t p q = p ∙ sym q
-    worked_once (Curve first last given) I s t p q = p ∙ sym q
+    worked_once (Center into new effort count) I s t p q = p ∙ sym q
+    worked_once (Curve first last effort) I s t p q = p ∙ sym q
 
     meant_once : (job : Job) (meaning : Result Instance FileFault) (s t : Due) → Meant job meaning s → Meant job meaning t → s ≡ t
     meant_once job (Ok I) s t p q = worked_once job I s t p q
@@ -536,12 +546,12 @@ module _ (r : Run) where
     -- words that name a file and words of a trial
     not_both : (file : InstanceFile) (job : Job) (I : Instance) → command_of r.words ≡ Some (OnFile file job) → HasTrial r I → ⊥
     not_both file job I named trial =
-        let both : Some (OnFile file job) ≡ Some (OnTrial trial.seed trial.sites trial.customers) = sym named ∙ trial.words_are in
+        let both : Some (OnFile file job) ≡ Some (OnTrial trial.seed trial.sites trial.customers trial.limits) = sym named ∙ trial.words_are in
         cc
 
     one_trial : (I J : Instance) → HasTrial r I → HasTrial r J → I ≡ J
     one_trial I J p q =
-        let both : Some (OnTrial p.seed p.sites p.customers) ≡ Some (OnTrial q.seed q.sites q.customers) = sym p.words_are ∙ q.words_are in
+        let both : Some (OnTrial p.seed p.sites p.customers p.limits) ≡ Some (OnTrial q.seed q.sites q.customers q.limits) = sym p.words_are ∙ q.words_are in
         let seed : p.seed ≡ q.seed = cc in
         let sites : p.sites ≡ q.sites = cc in
         let customers : p.customers ≡ q.customers = cc in
@@ -551,9 +561,9 @@ module _ (r : Run) where
     due_once : (s t : Due) → IsDue s → IsDue t → s ≡ t
     due_once s t (inl p) (inl q) = p.1 ∙ sym q.1
     due_once s t (inl p) (inr (inl q)) = absurd (no_command (OnFile q.0 q.1) p.0 q.3.words_are)
-    due_once s t (inl p) (inr (inr q)) = absurd (no_command (OnTrial q.1.seed q.1.sites q.1.customers) p.0 q.1.words_are)
+    due_once s t (inl p) (inr (inr q)) = absurd (no_command (OnTrial q.1.seed q.1.sites q.1.customers q.1.limits) p.0 q.1.words_are)
     due_once s t (inr (inl p)) (inl q) = absurd (no_command (OnFile p.0 p.1) q.0 p.3.words_are)
-    due_once s t (inr (inr p)) (inl q) = absurd (no_command (OnTrial p.1.seed p.1.sites p.1.customers) q.0 p.1.words_are)
+    due_once s t (inr (inr p)) (inl q) = absurd (no_command (OnTrial p.1.seed p.1.sites p.1.customers p.1.limits) q.0 p.1.words_are)
     due_once s t (inr (inl p)) (inr (inr q)) = absurd (not_both p.0 p.1 q.0 p.3.words_are q.1)
     due_once s t (inr (inr p)) (inr (inl q)) = absurd (not_both q.0 q.1 p.0 q.3.words_are p.1)
     due_once s t (inr (inr p)) (inr (inr q)) = p.2 ∙ ap (λ I. Trial I (budget_in I None)) (one_trial p.0 q.0 p.1 q.1) ∙ sym q.2
@@ -580,13 +590,13 @@ module _ (r : Run) where
 
     -- a status that suits what is due, or the run is hindered from it
     abbrev EndsDue : Due → Status → Type 0
-    EndsDue due status = (other : Status) × Suits told_input due other × EndsAs r other status
+    EndsDue due status = (other : Status) × Suits (IsQuiet r) told_input due other × EndsAs r other status
 
     hindered : (due : Due) (status : Status) → ((other : Status) → IsHindered r other status) → EndsDue due status
-    hindered due status is = let some = some_suits told_input due in (some.0, some.1, inr (is some.0))
+    hindered due status is = let some = some_suits (IsQuiet r) told_input due in (some.0, some.1, inr (is some.0))
 
     -- a reply whose status suits what is due was printed
-    printed_suits : (due : Due) (row text : List ℕ) (before status : Status) → Suits told_input due before → IsPrinted row text before status r.before.output r.after.output → EndsDue due status
+    printed_suits : (due : Due) (row text : List ℕ) (before status : Status) → Suits (IsQuiet r) told_input due before → IsPrinted row text before status r.before.output r.after.output → EndsDue due status
     printed_suits due row text before status suits (inl whole) = (before, suits, inl whole.status_is)
     printed_suits due row text before status suits (inr front) =
         (before, suits, elim front.status_is [ inl cut ↦ inr (OutputFailed cut.0 cut.1) | inr out ↦ inr (MemoryRanOut out) ])
@@ -609,7 +619,7 @@ module _ (r : Run) where
     ends_as_due : (due : Due) (status : Status) → IsDue due → Ends r status → EndsDue due status
     ends_as_due due status is (inl a) =
         elim (cause_is_due a.reply a.cause) [
-          | inl other ↦ printed_suits due a.row (text_of a.reply) (status_of a.reply) status (subst (λ o. Suits told_input o (status_of a.reply)) (due_once other.0 due other.1 is) other.2) a.printed
+          | inl other ↦ printed_suits due a.row (text_of a.reply) (status_of a.reply) status (subst (λ o. Suits (IsQuiet r) told_input o (status_of a.reply)) (due_once other.0 due other.1 is) other.2) a.printed
           | inr fails ↦ hindered due status (λ other. printed_fails other (status_of a.reply) status a.row (text_of a.reply) fails a.printed)
         ]
     ends_as_due due status is (inr (inl out)) = hindered due status (λ other. MemoryRanOut (ran_out status out))
@@ -630,19 +640,19 @@ module _ (r : Run) where
     alike one two status same (OutputFailed rose is) = OutputFailed rose (is ∙ same)
     alike one two status same (RowRefused at rose is) = RowRefused at rose is
 
-    search_ends : (I : Instance) (budget : ℕ) (status : Status) → EndsDue (Search I budget) status → EndsSearch (λ due. EndsAs r due status) I budget status
+    search_ends : (I : Instance) (budget : ℕ) (status : Status) → EndsDue (Search I budget) status → EndsSearch r (λ due. EndsAs r due status) I budget status
     search_ends I budget status (other, inl is, ends) = inl (subst (λ d. EndsAs r d status) is ends)
     search_ends I budget status (other, inr (inl is), inl same) = inr (inl (same ∙ is))
     search_ends I budget status (other, inr (inl is), inr h) = inl (inr (alike other Done status (ap when_cut is) h))
     search_ends I budget status (other, inr (inr is), inl same) = inr (inr (same ∙ is.0, is.1))
     search_ends I budget status (other, inr (inr is), inr h) = inl (inr (alike other Done status (ap when_cut is.0) h))
 
-    trial_ends : (I : Instance) (budget : ℕ) (status : Status) → EndsDue (Trial I budget) status → EndsTrial (λ due. EndsAs r due status) I budget status
+    trial_ends : (I : Instance) (budget : ℕ) (status : Status) → EndsDue (Trial I budget) status → EndsTrial r (λ due. EndsAs r due status) I budget status
     trial_ends I budget status (other, inl is, ends) = inl (subst (λ d. EndsAs r d status) is ends)
     trial_ends I budget status (other, inr is, inl same) = inr (same ∙ is.0, is.1)
     trial_ends I budget status (other, inr is, inr h) = inl (inr (alike other Done status (ap when_cut is.0) h))
 
-    pub tried : (status : Status) → Ends r status → (I : Instance) → HasTrial r I → EndsTrial (λ due. EndsAs r due status) I (budget_in I None) status
+    pub tried : (status : Status) → Ends r status → (I : Instance) → HasTrial r I → EndsTrial r (λ due. EndsAs r due status) I (budget_in I None) status
     tried status ends I trial = trial_ends I (budget_in I None) status (ends_as_due (Trial I (budget_in I None)) status (trial_is_due I trial) ends)
 
     input_ends : (status : Status) (told : Option (List ℕ)) → told ≡ told_input → EndsDue AsInput status → EndsAsInput (λ due. EndsAs r due status) told
@@ -721,13 +731,13 @@ module _ (r : Run) where
 
     pub complete : (status : Status) → Ends r status → (job : Job) (I : Instance) → HasTask r job I → IsComplete r job I status
     complete status ends SolveShort I task = λ few. exactly Done status (ends_as_due (Exactly Done) status (few_is_due I task few) ends)
-    complete status ends (SolveLong into given) I task = λ within. search_ends I (budget_in I given) status (ends_as_due (Search I (budget_in I given)) status (search_is_due into given I task within) ends)
+    complete status ends (SolveLong into effort) I task = λ within. search_ends I (budget_in I effort.given) status (ends_as_due (Search I (budget_in I effort.given)) status (search_is_due into effort I task within) ends)
     complete status ends ShowDuals I task = exactly Done status (ends_as_due (Exactly Done) status (duals_are_due I task) ends)
     complete status ends (Check name) I task = checked status ends name I task
     complete status ends (Convert new) I task = exactly Done status (ends_as_due (Exactly Done) status (conversion_is_due new I task) ends)
-    complete status ends (Center into new given count) I task =
+    complete status ends (Center into new effort count) I task =
         λ within.
-        search_ends (counted_by count I) (budget_in I given) status (ends_as_due (Search (counted_by count I) (budget_in I given)) status (center_is_due into new given count I task within) ends)
-    complete status ends (Curve first last given) I task = λ within. exactly Done status (ends_as_due (Exactly Done) status (curve_is_due first last given I task within) ends)
+        search_ends (counted_by count I) (budget_in I effort.given) status (ends_as_due (Search (counted_by count I) (budget_in I effort.given)) status (center_is_due into new effort count I task within) ends)
+    complete status ends (Curve first last effort) I task = λ within. exactly Done status (ends_as_due (Exactly Done) status (curve_is_due first last effort I task within) ends)
     complete status ends Session I task = input_ends status told_input refl (ends_as_due AsInput status (session_is_due I task) ends)
     complete status ends (ShowRange name at) I task = range_complete status ends name at I task

@@ -9,6 +9,7 @@ use Rattle.dualoc_cli.specs.declared.status.Status.{Status}
 use Rattle.dualoc_cli.specs.declared.status.Status.TheVariants.{Done, Usage, NoMemory}
 use Rattle.instance_forms.specs.Forms.{InstanceFile}
 use Rattle.dualoc_cli.specs.declared.reply.Reply.{Reply}
+use Rattle.watch_port.specs.declared.limits.Limits.{Limits}
 use Rattle.dualoc_cli.specs.Command.{Command, OnFile, OnTrial, Job, SolveShort, SolveLong, ShowDuals, Check, Convert, Session, ShowRange, Center, Curve, command_of}
 use Rattle.dualoc_cli.specs.Status.{when_cut}
 use Rattle.dualoc_cli.specs.Reply.{status_of, text_of}
@@ -36,7 +37,7 @@ module _ (r : Run) where
   usage status (inr (inl out)) none = inr (ran_out r status out)
   usage status (inr (inr (inl cut))) none = absurd (no_command r (OnFile cut.row_is.task.file Session) none cut.row_is.task.asked.words_are)
   usage status (inr (inr (inr cut))) none =
-      let row = cut.row_is in absurd (no_command r (OnFile row.asked.task.file (Curve row.first row.last row.asked.given)) none row.asked.task.asked.words_are)
+      let row = cut.row_is in absurd (no_command r (OnFile row.asked.task.file (Curve row.first row.last row.asked.effort)) none row.asked.task.asked.words_are)
 
   no_result : (status : Status) → status ≡ NoMemory → IsResult status → ⊥
   no_result status is h = subst IsResult is h
@@ -124,25 +125,25 @@ module _ (r : Run) where
   none_held named (inl same) = same
   none_held named (inr held) = let task = (held_words held).1 in absurd (no_command r (OnFile task.file Session) named task.asked.words_are)
 
-  none_held_in_trial : (seed m n : ℕ) → command_of r.words ≡ Some (OnTrial seed m n) → ChangesNoFile r ⊎ HoldsSession r → ChangesNoFile r
-  none_held_in_trial seed m n named (inl same) = same
-  none_held_in_trial seed m n named (inr held) =
+  none_held_in_trial : (seed m n : ℕ) (limits : Limits) → command_of r.words ≡ Some (OnTrial seed m n limits) → ChangesNoFile r ⊎ HoldsSession r → ChangesNoFile r
+  none_held_in_trial seed m n limits named (inl same) = same
+  none_held_in_trial seed m n limits named (inr held) =
       let task = (held_words held).1 in
-      let both : Some (OnTrial seed m n) ≡ Some (OnFile task.file Session) = sym named ∙ task.asked.words_are in
+      let both : Some (OnTrial seed m n limits) ≡ Some (OnFile task.file Session) = sym named ∙ task.asked.words_are in
       absurd cc
 
   stays : (command : Option Command) (status : Status) → command_of r.words ≡ command → (IsRefusalStatus status → ChangesNoFile r ⊎ HoldsSession r) → StaysUntouched r command status
   stays None status is same = λ h. none_held is (same h)
   stays (Some (OnFile file SolveShort)) status is same = λ h. no_session file SolveShort is (λ e. subst IsOnce e tt) (same h)
-  stays (Some (OnFile file (SolveLong into given))) status is same = λ h. no_session file (SolveLong into given) is (λ e. subst IsOnce e tt) (same h)
+  stays (Some (OnFile file (SolveLong into effort))) status is same = λ h. no_session file (SolveLong into effort) is (λ e. subst IsOnce e tt) (same h)
   stays (Some (OnFile file ShowDuals)) status is same = λ h. no_session file ShowDuals is (λ e. subst IsOnce e tt) (same h)
   stays (Some (OnFile file (Check certificate))) status is same = λ h. no_session file (Check certificate) is (λ e. subst IsOnce e tt) (same h)
   stays (Some (OnFile file (Convert new))) status is same = λ h. no_session file (Convert new) is (λ e. subst IsOnce e tt) (same h)
   stays (Some (OnFile file Session)) status is same = same
   stays (Some (OnFile file (ShowRange certificate at))) status is same = λ h. no_session file (ShowRange certificate at) is (λ e. subst IsOnce e tt) (same h)
-  stays (Some (OnFile file (Center into new given count))) status is same = λ h. no_session file (Center into new given count) is (λ e. subst IsOnce e tt) (same h)
-  stays (Some (OnFile file (Curve first last given))) status is same = λ h. no_session file (Curve first last given) is (λ e. cc) (same h)
-  stays (Some (OnTrial seed m n)) status is same = λ h. none_held_in_trial seed m n is (same h)
+  stays (Some (OnFile file (Center into new effort count))) status is same = λ h. no_session file (Center into new effort count) is (λ e. subst IsOnce e tt) (same h)
+  stays (Some (OnFile file (Curve first last effort))) status is same = λ h. no_session file (Curve first last effort) is (λ e. cc) (same h)
+  stays (Some (OnTrial seed m n limits)) status is same = λ h. none_held_in_trial seed m n limits is (same h)
 
   -- memory ran out
   pub without_memory : (status : Status) (mid : SinkState) → RunsOut r mid → IsPrinted [] (codes "no memory\n") NoMemory status mid r.after.output → Ends r status

@@ -3,7 +3,7 @@ use Rattle.std.proofs.Common.{◌≡◌, ℕ, ◌+◌, ◌≤◌, List, [], ◌+
 use Rattle.std.specs.Prelude.{IfOk, IfErr}
 use Rattle.shelf_port.specs.Files.{Rose}
 use Rattle.shelf_port.specs.Streams.{with_back, RefusedLast}
-use Rattle.shelf_port.specs.Ports.{SourceState, SinkState, Ports}
+use Rattle.shelf_port.specs.Ports.{SourceState, SinkState}
 use Rattle.location_terms.specs.Instance.{Instance}
 use Rattle.instance_forms.specs.Forms.{InstanceFile}
 use Rattle.whatif_session.specs.Input.{InputLimits, session_limits}
@@ -20,9 +20,11 @@ use Rattle.dualoc_cli.specs.declared.words.Task.{Task}
 use Rattle.dualoc_cli.specs.declared.words.Task.TheVariants as in_memory
 use Rattle.dualoc_cli.specs.Command.{Command, OnFile, OnTrial, Job, SolveShort, SolveLong, ShowDuals, Check, Convert, Session, ShowRange, Center, Curve, command_of}
 use Rattle.dualoc_cli.specs.Reply.{status_of}
-use Rattle.dualoc_cli.specs.Run.{Run, HasTask, ChangesNoFile, LeavesInput}
+use Rattle.watch_port.specs.declared.limits.Limits.{Limits}
+use Rattle.dualoc_cli.specs.declared.options.Effort.{Effort}
+use Rattle.dualoc_cli.specs.Run.{Outside, Run, HasTask, ChangesNoFile, LeavesInput}
 use Rattle.dualoc_cli.specs.Session.{IsSessionRow, StopsAt, HoldsSession, RowEnd, AfterSession, AfterCurve, row_end}
-use Rattle.dualoc_cli.specs.Curve.{HasCurveTask, AreCurveLines, IsCurveRow, IsWholeCurve}
+use Rattle.dualoc_cli.specs.Curve.{HasCurveTask, IsCurveLine, AreCurveLines, IsCurveRow, IsWholeCurve}
 use Rattle.dualoc_cli.specs.Drawing.{IsCurveHalted, IsCurveWhole, IsCurveReply, IsCurveUnanswered}
 use Rattle.dualoc_cli.proofs.Searching.{large_for}
 use Rattle.tree_search.specs.Budget.{max_budget, budget_in}
@@ -45,12 +47,12 @@ no_curve_end stop is = cc
 
 abbrev pub IsOnce : Job → Type 0
 IsOnce Session = ⊥
-IsOnce (Curve first last given) = ⊥
+IsOnce (Curve first last effort) = ⊥
 IsOnce job = Unit {0}
 
 pub once_asked : (task : Task) → IsOnce (asked_task task)
 once_asked in_memory.SolveShort = tt
-once_asked (in_memory.SolveLong into given) = tt
+once_asked (in_memory.SolveLong into effort) = tt
 once_asked in_memory.ShowDuals = tt
 once_asked (in_memory.Check certificate) = tt
 once_asked (in_memory.Convert new) = tt
@@ -76,7 +78,7 @@ module _ (r : Run) where
   drawn_row : (row : List ℕ) → IsWholeCurve r row → HasRow
   drawn_row row whole =
       let asked = whole.row_is.asked in
-      (Curve whole.row_is.first whole.row_is.last asked.given, whole.row_is.instance, asked.task, λ once. once)
+      (Curve whole.row_is.first whole.row_is.last asked.effort, whole.row_is.instance, asked.task, λ once. once)
 
   -- no reply but those of a session and of a curve ends one
   stops_by : (reply : Reply) (stop : RowEnd) → row_end reply ≡ Some stop → IsCause r reply → HasRow
@@ -147,41 +149,41 @@ module _ (r : Run) where
   reads_none : (command : Option Command) → ChangesNoFile r → LeavesInput r → ReadsNoLine r command
   reads_none None same unread = unread
   reads_none (Some (OnFile file SolveShort)) same unread = unread
-  reads_none (Some (OnFile file (SolveLong into given))) same unread = unread
+  reads_none (Some (OnFile file (SolveLong into effort))) same unread = unread
   reads_none (Some (OnFile file ShowDuals)) same unread = unread
   reads_none (Some (OnFile file (Check certificate))) same unread = unread
   reads_none (Some (OnFile file (Convert new))) same unread = unread
   reads_none (Some (OnFile file Session)) same unread = (same, unread)
   reads_none (Some (OnFile file (ShowRange certificate at))) same unread = unread
-  reads_none (Some (OnFile file (Center into new given count))) same unread = unread
-  reads_none (Some (OnFile file (Curve first last given))) same unread = unread
-  reads_none (Some (OnTrial seed m n)) same unread = unread
+  reads_none (Some (OnFile file (Center into new effort count))) same unread = unread
+  reads_none (Some (OnFile file (Curve first last effort))) same unread = unread
+  reads_none (Some (OnTrial seed m n limits)) same unread = unread
 
   once_reads_none : (command : Option Command) (file : InstanceFile) (job : Job) → command ≡ Some (OnFile file job) → IsOnce job → LeavesInput r → ReadsNoLine r command
   once_reads_none None file job is once unread = unread
   once_reads_none (Some (OnFile f SolveShort)) file job is once unread = unread
-  once_reads_none (Some (OnFile f (SolveLong into given))) file job is once unread = unread
+  once_reads_none (Some (OnFile f (SolveLong into effort))) file job is once unread = unread
   once_reads_none (Some (OnFile f ShowDuals)) file job is once unread = unread
   once_reads_none (Some (OnFile f (Check certificate))) file job is once unread = unread
   once_reads_none (Some (OnFile f (Convert new))) file job is once unread = unread
   once_reads_none (Some (OnFile f Session)) file job is once unread = let same : job ≡ Session = cc in absurd (subst IsOnce same once)
   once_reads_none (Some (OnFile f (ShowRange certificate at))) file job is once unread = unread
-  once_reads_none (Some (OnFile f (Center into new given count))) file job is once unread = unread
-  once_reads_none (Some (OnFile f (Curve first last given))) file job is once unread = unread
-  once_reads_none (Some (OnTrial seed m n)) file job is once unread = unread
+  once_reads_none (Some (OnFile f (Center into new effort count))) file job is once unread = unread
+  once_reads_none (Some (OnFile f (Curve first last effort))) file job is once unread = unread
+  once_reads_none (Some (OnTrial seed m n limits)) file job is once unread = unread
 
   input_kept : (command : Option Command) → LeavesInput r → KeepsInput r command
   input_kept None unread = unread
   input_kept (Some (OnFile file SolveShort)) unread = unread
-  input_kept (Some (OnFile file (SolveLong into given))) unread = unread
+  input_kept (Some (OnFile file (SolveLong into effort))) unread = unread
   input_kept (Some (OnFile file ShowDuals)) unread = unread
   input_kept (Some (OnFile file (Check certificate))) unread = unread
   input_kept (Some (OnFile file (Convert new))) unread = unread
   input_kept (Some (OnFile file Session)) unread = inl unread
   input_kept (Some (OnFile file (ShowRange certificate at))) unread = unread
-  input_kept (Some (OnFile file (Center into new given count))) unread = unread
-  input_kept (Some (OnFile file (Curve first last given))) unread = unread
-  input_kept (Some (OnTrial seed m n)) unread = unread
+  input_kept (Some (OnFile file (Center into new effort count))) unread = unread
+  input_kept (Some (OnFile file (Curve first last effort))) unread = unread
+  input_kept (Some (OnTrial seed m n limits)) unread = unread
 
   no_stop : (stop : Option RowEnd) → ((s : RowEnd) → stop ≡ Some s → ⊥) → stop ≡ None
   no_stop None none = refl
@@ -193,7 +195,7 @@ module _ (r : Run) where
   row_none : (stop : Option RowEnd) → stop ≡ None → RowBefore r stop []
   row_none stop none = subst (λ s. RowBefore r s []) (sym none) refl
 
-  module _ (old new : Ports) (part : Spans r old new) where
+  module _ (old new : Outside) (part : Spans r old new) where
     left_input : new.input ≡ old.input → LeavesInput r
     left_input same = sym part.input_left ∙ same ∙ part.input
 
@@ -243,8 +245,8 @@ module _ (r : Run) where
       unread_keeps file job words_are =
           (subst (Leaves r) (sym words_are) (unchanged r job old.shelf new.shelf part.shelf same_files), input_kept (command_of r.words) (left_input same_input))
 
-      pub trial_keeps : (seed m n : ℕ) → command_of r.words ≡ Some (OnTrial seed m n) → KeepsAll r
-      trial_keeps seed m n words_are =
+      pub trial_keeps : (seed m n : ℕ) (limits : Limits) → command_of r.words ≡ Some (OnTrial seed m n limits) → KeepsAll r
+      trial_keeps seed m n limits words_are =
           (subst (Leaves r) (sym words_are) (changes_none r old.shelf new.shelf part.shelf same_files), input_kept (command_of r.words) (left_input same_input))
 
       pub none_keeps : command_of r.words ≡ None → KeepsAll r
@@ -260,7 +262,7 @@ module _ (r : Run) where
       stops_same limits bytes lines stop stops =
           subst (λ s. StopsBehind limits s r.after.input bytes lines stop) part.input (subst (λ s. StopsBehind limits old.input s bytes lines stop) part.input_left stops)
 
-      abbrev whole_run : (stop : Stop) (row : List ℕ) → SessionRun session_limits I old.shelf new.shelf old.input new.input stop row → SessionRun session_limits I r.before.shelf r.after.shelf r.before.input r.after.input stop row
+      abbrev whole_run : (stop : Stop) (row : List ℕ) → SessionRun session_limits I old.shelf new.shelf old.input new.input old.heard new.heard stop row → SessionRun session_limits I r.before.shelf r.after.shelf r.before.input r.after.input r.before.heard r.after.heard stop row
       whole_run stop row run =
           record {
             bytes = run.bytes;
@@ -271,13 +273,15 @@ module _ (r : Run) where
             last = run.last;
             begins = run.begins;
             files_before = run.files_before ∙ part.shelf.files;
+            heard_first = run.heard_first ∙ sym part.heard;
             since = λ name. omega (arith, part.shelf.writes_since name, run.since name);
             steps = run.steps;
             until = λ name. omega (arith, run.until name, part.shelf.writes_until name);
+            heard_last = omega (arith, run.heard_last, part.heard_left);
             files_after = subst (λ files. FilesLeft session_limits stop run.bytes run.lines run.last files) part.shelf.left run.files_after;
           }
 
-      abbrev row_of : (stop : Stop) (row : List ℕ) → SessionRun session_limits I old.shelf new.shelf old.input new.input stop row → IsSessionRow r stop row
+      abbrev row_of : (stop : Stop) (row : List ℕ) → SessionRun session_limits I old.shelf new.shelf old.input new.input old.heard new.heard stop row → IsSessionRow r stop row
       row_of stop row run = record { instance = I; task = task; run = whole_run stop row run }
 
       gains_same : (row : List ℕ) → GainsWhole row old.output new.output → GainsWhole row r.before.output new.output
@@ -322,13 +326,28 @@ module _ (r : Run) where
           (subst (Leaves r) (sym task.asked.words_are) (inr held), subst (KeepsInput r) (sym task.asked.words_are) (inr held))
 
     -- a curve, which leaves the files and the input
-    module _ (I : Instance) (first last : ℕ) (given : Option ℕ) (task : HasTask r (Curve first last given) I) (same_files : new.shelf.files ≡ old.shelf.files) (same_input : new.input ≡ old.input) where
-      asked_curve_task : budget_in I given ≤ max_budget I → HasCurveTask r I first last (budget_in I given)
-      asked_curve_task within = record { given = given; task = task; in_force = refl; within = within }
+    module _ (I : Instance) (first last : ℕ) (effort : Effort) (task : HasTask r (Curve first last effort) I) (same_files : new.shelf.files ≡ old.shelf.files) (same_input : new.input ≡ old.input) where
+      abbrev budget : ℕ
+      budget = budget_in I effort.given
 
-      abbrev some_row : (within : budget_in I given ≤ max_budget I) (counts : ℕ) → first + counts ≤ last + 1 → (row : List ℕ) → AreCurveLines I (budget_in I given) first counts row → IsCurveRow r row
-      some_row within counts few row lines =
-          record { instance = I; first = first; last = last; budget = budget_in I given; asked = asked_curve_task within; counts = counts; within = few; lines = lines }
+      asked_curve_task : budget ≤ max_budget I → HasCurveTask r I first last budget
+      asked_curve_task within = record { effort = effort; task = task; in_force = refl; within = within }
+
+      abbrev some_row : (within : budget ≤ max_budget I) (counts : ℕ) → first + counts ≤ last + 1 → (heard : ℕ) → heard ≤ new.heard → (row : List ℕ) → AreCurveLines I budget old.heard heard first counts row
+          → IsCurveRow r row
+      some_row within counts few heard until row lines =
+          record {
+            instance = I;
+            first = first;
+            last = last;
+            budget = budget;
+            asked = asked_curve_task within;
+            counts = counts;
+            within = few;
+            heard = heard;
+            until = omega (arith, until, part.heard_left);
+            lines = subst (λ h. AreCurveLines I budget h heard first counts row) (sym part.heard) lines;
+          }
 
       gains_from : (row : List ℕ) → GainsWhole row old.output new.output → GainsWhole row r.before.output new.output
       gains_from row gains = subst (λ o. GainsWhole row o new.output) part.output gains
@@ -336,12 +355,12 @@ module _ (r : Run) where
       same_all : ChangesNoFile r
       same_all = changes_none r old.shelf new.shelf part.shelf same_files
 
-      whole_curve : (within : budget_in I given ≤ max_budget I) (whole : IsCurveWhole I (budget_in I given) first last old.output new.output) → IsWholeCurve r whole.drawn.row
-      whole_curve within whole = record { row_is = some_row within whole.counts (omega (arith, whole.all)) whole.drawn.row whole.drawn.lines; all = whole.all }
+      whole_curve : (within : budget ≤ max_budget I) (whole : IsCurveWhole I budget old.heard new.heard first last old.output new.output) → IsWholeCurve r whole.drawn.row
+      whole_curve within whole = record { row_is = some_row within whole.counts (omega (arith, whole.all)) new.heard (omega arith) whole.drawn.row whole.drawn.lines; all = whole.all }
 
-      pub curve_comes : (reply : Reply) → IsCurveReply I first last given old.output new.output reply → ComesTo r new.output reply
+      pub curve_comes : (reply : Reply) → IsCurveReply I old.heard new.heard first last effort.given old.output new.output reply → ComesTo r new.output reply
       curve_comes (Refused LargeBudget) replied =
-          unread_comes same_files same_input replied.1 (Refused LargeBudget) (large_for r (Curve first last given) given I task refl replied.0) refl
+          unread_comes same_files same_input replied.1 (Refused LargeBudget) (large_for r (Curve first last effort) effort.given I task refl replied.0) refl
       curve_comes (Reached Drawn) replied =
           let whole = whole_curve replied.0 replied.1 in
           record {
@@ -374,20 +393,20 @@ module _ (r : Run) where
       curve_comes (Reached (Ranged range)) replied = absurd replied
       curve_comes (Reached NoOptimalClaim) replied = absurd replied
 
-      halts_by : (within : budget_in I given ≤ max_budget I) (h : Halt) → IsCurveHalted I (budget_in I given) first last old.output new.output h → ComesToHalt r new.output h
+      halts_by : (within : budget ≤ max_budget I) (h : Halt) → IsCurveHalted I budget old.heard new.heard first last old.output new.output h → ComesToHalt r new.output h
       halts_by within halt.NoMemory forgotten =
           record {
             row = forgotten.drawn.row;
-            row_is = inr (inr (some_row within forgotten.counts forgotten.within forgotten.drawn.row forgotten.drawn.lines));
+            row_is = inr (inr (some_row within forgotten.counts forgotten.within forgotten.heard forgotten.until forgotten.drawn.row forgotten.drawn.lines));
             gains = gains_from forgotten.drawn.row forgotten.drawn.gains;
           }
       halts_by within (halt.Refused fault) cut =
           inr (record {
             done = cut.done;
             line = cut.line;
-            row_is = some_row within cut.counts (omega (arith, cut.asked_on)) cut.done cut.lines;
+            row_is = some_row within cut.counts (omega (arith, cut.asked_on)) cut.heard (omega (arith, cut.line_is.left.rises)) cut.done cut.lines;
             asked_on = cut.asked_on;
-            next = cut.line_is;
+            next = subst (λ h. IsCurveLine I budget cut.heard h (first + cut.counts) cut.line) (sym part.heard_left) cut.line_is;
             len = cut.len;
             front = cut.front;
             gained = cut.gained ∙ ap (λ (o : SinkState). with_back o.written (cut.done ++ take cut.len cut.line)) part.output;
@@ -395,7 +414,7 @@ module _ (r : Run) where
             failed = λ failed. subst (λ (o : SinkState). Rose o.faults new.output.faults) part.output (cut.failed failed);
           })
 
-      pub curve_halts : (h : Halt) → IsCurveUnanswered I first last given old.output new.output h → ComesToHalt r new.output h
+      pub curve_halts : (h : Halt) → IsCurveUnanswered I old.heard new.heard first last effort.given old.output new.output h → ComesToHalt r new.output h
       curve_halts h unanswered = halts_by unanswered.within h unanswered.halted
 
       pub curve_keeps : KeepsAll r

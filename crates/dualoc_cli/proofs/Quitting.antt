@@ -1,7 +1,7 @@
 -- What a line that ends a session does.
 use Rattle.std.proofs.Common.{◌≡◌, ℕ, true, false, List, [], Option, None, Some, refl, subst}
 use Rattle.location_terms.specs.Instance.{Instance}
-use Rattle.session_lines.specs.Lines.{SessionLine, Blank, TakeBack, Quit, Show, Change, Solve, Save, Cert, session_line, asks_to_quit, quits}
+use Rattle.session_lines.specs.Lines.{SessionLine, Blank, TakeBack, Quit, Show, Change, Solve, Limit, Save, Cert, session_line, asks_to_quit, quits}
 use Rattle.whatif_session.specs.State.{SessionState}
 use Rattle.whatif_session.specs.Step.{Moment, SessionStep, Does}
 use Rattle.whatif_session.specs.Run.{due_file}
@@ -14,6 +14,7 @@ asks (Some TakeBack) quit = absurd (cc)
 asks (Some (Show form)) quit = absurd (cc)
 asks (Some (Change e)) quit = absurd (cc)
 asks (Some (Solve given)) quit = absurd (cc)
+asks (Some (Limit limits)) quit = absurd (cc)
 asks (Some (Save name)) quit = absurd (cc)
 asks (Some (Cert name)) quit = absurd (cc)
 
@@ -31,6 +32,7 @@ no_file I state (Some TakeBack) due is = refl
 no_file I state (Some (Show form)) due is = refl
 no_file I state (Some (Change e)) due is = refl
 no_file I state (Some (Solve given)) due is = refl
+no_file I state (Some (Limit limits)) due is = refl
 no_file I state (Some (Save name)) due is = refl
 no_file I state (Some (Cert name)) due is = refl
 

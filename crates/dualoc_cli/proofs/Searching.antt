@@ -1,7 +1,8 @@
 -- What a search may start from, and what it comes to.
-use Rattle.std.proofs.Common.{◌≡◌, ◌↔◌, ℕ, zero, suc, ◌+◌, ◌^◌, ◌<◌, ◌≤◌, false, [], ◌∷◌, Option, None, Some, refl, sym, subst, inl, inr, arith}
+use Rattle.std.proofs.Common.{◌≡◌, ◌↔◌, ℕ, zero, suc, ◌+◌, ◌*◌, ◌^◌, ◌<◌, ◌≤◌, false, length, [], ◌∷◌, Option, None, Some, refl, sym, subst, inl, inr, arith}
 use Rattle.std.specs.Prelude.{ℤ, Result, Ok, Err, IfOk, IfSome, IsTrue, slice_get}
 use Rattle.std.proofs.Math.Nat.{min-le_left}
+use Rattle.std.proofs.lemmas.Nat.{mul-le}
 use Rattle.std.proofs.lemmas.List.Elements.{All-nil, All-cons}
 use Rattle.location_terms.specs.Instance.{Instance, IsValid}
 use Rattle.location_terms.specs.Plan.{Plan, IsFeasible}
@@ -24,13 +25,15 @@ use Rattle.tree_search.specs.Budget.{max_budget, budget_in}
 use Rattle.tree_search.specs.declared.budget.TheConstants.{DEFAULT_BUDGET}
 use Rattle.tree_laws.proofs.Once.{leaf_once}
 use Rattle.tree_laws.proofs.Standing.{small_costs, short_text_of}
+use Rattle.watch_port.specs.Left.{IsBudgetLeft}
+use Rattle.dualoc_cli.specs.declared.options.Effort.{Effort}
 use Rattle.dualoc_cli.specs.Command.{ResultFiles, Job, SolveLong}
 use Rattle.shelf_port.specs.Ports.{ShelfState}
 use Rattle.dualoc_cli.specs.declared.reply.Reply.{Reply}
 use Rattle.dualoc_cli.specs.Run.{Run, HasTask}
 use Rattle.dualoc_cli.specs.Search.{budget_given, HasLargeBudget, HasSearch, IsEnd, IsFound}
 use Rattle.dualoc_cli.specs.Due.{IsCause}
-use Rattle.dualoc_cli.specs.Step.{Covers}
+use Rattle.dualoc_cli.specs.Step.{Heard, Covers}
 
 -- a leaf of zeros at scale 1 doesn't close without a target
 open_bound : (bound : ℤ) → BoundCloses bound 1 None → ⊥
@@ -112,12 +115,33 @@ pub large_for : (r : Run) (job : Job) (given : Option ℕ) (I : Instance) → Ha
 large_for r job None I task gives large = absurd (omega (arith, large, min-le_left (max_budget I) DEFAULT_BUDGET))
 large_for r job (Some budget) I task gives large = record { instance = I; job = job; budget = budget; task = task; gives = gives; large = large }
 
-pub large_given : (r : Run) (into : ResultFiles) (given : Option ℕ) (I : Instance) → HasTask r (SolveLong into given) I → max_budget I < budget_in I given → HasLargeBudget r
-large_given r into given I task large = large_for r (SolveLong into given) given I task refl large
+pub large_given : (r : Run) (into : ResultFiles) (effort : Effort) (I : Instance) → HasTask r (SolveLong into effort) I → max_budget I < budget_in I effort.given → HasLargeBudget r
+large_given r into effort I task large = large_for r (SolveLong into effort) effort.given I task refl large
 
--- a reply has its cause for each run that asks for a search with this budget in force, and so for each that asks for the task
-pub asked_cause : {E : Type 0} (result : Result Reply E) (into : ResultFiles) (given : Option ℕ) (I : Instance) (budget : ℕ) (old new : ShelfState) → budget ≡ budget_in I given → budget ≤ max_budget I
-    → IfOk result (λ reply. (r : Run) → HasSearch r into I budget → Covers r old new → IsCause r reply)
-    → IfOk result (λ reply. (r : Run) → HasTask r (SolveLong into given) I → Covers r old new → IsCause r reply)
-asked_cause (Ok reply) into given I budget old new in_force within cause = λ r task part. cause r (record { given = given; task = task; in_force = in_force; within = within }) part
-asked_cause (Err fault) into given I budget old new in_force within cause = tt
+-- a search that began within the greatest budget is within it with what is left of that
+pub within_left : (I : Instance) (given left : ℕ) → IsWithin I given → left ≤ given → IsWithin I left
+within_left I given left within fewer =
+    let places : ℕ = length I.sites + length I.customers in
+    let product : 2 * left * places ≤ 2 * given * places = mul-le (2 * left) places (2 * given) places (omega (arith, fewer)) (omega arith) in
+    omega (arith, within, product)
+
+-- Runs that ask for the task, and in which the watch was heard so often while it was done.
+module _ (into : ResultFiles) (effort : Effort) (I : Instance) (given budget before after : ℕ) (in_force : given ≡ budget_in I effort.given) (within : given ≤ max_budget I)
+    (left : IsBudgetLeft given budget before after) where
+  -- they ask for a search with this budget
+  pub asks_search : (r : Run) → Heard (λ r. HasTask r (SolveLong into effort) I) before after r → HasSearch r into I budget
+  asks_search r asks =
+      record {
+        effort = effort;
+        task = asks.asked;
+        within = subst (λ b. b ≤ max_budget I) in_force within;
+        left =
+            subst (λ b. IsBudgetLeft b budget r.before.heard r.after.heard) in_force
+            (subst (λ h. IsBudgetLeft given budget h r.after.heard) (sym asks.since) (subst (λ h. IsBudgetLeft given budget before h) (sym asks.until) left));
+      }
+
+  -- so a reply that has its cause for each run that asks for that search has it for each of them
+  pub asked_cause : {E : Type 0} (result : Result Reply E) (old new : ShelfState) → IfOk result (λ reply. (r : Run) → HasSearch r into I budget → Covers r old new → IsCause r reply)
+      → IfOk result (λ reply. (r : Run) → Heard (λ r. HasTask r (SolveLong into effort) I) before after r → Covers r old new → IsCause r reply)
+  asked_cause (Ok reply) old new cause = λ r asks part. cause r (asks_search r asks) part
+  asked_cause (Err fault) old new cause = tt

@@ -78,7 +78,7 @@ module _ (r : Run) (into : ResultFiles) (I : Instance) (budget : ℕ) (cert : Ce
       plan_held =
           let first : MayHold mid.files into.plan (plan_text_of I cert.claim cert.plan) = subst (λ f. MayHold f into.plan (plan_text_of I cert.claim cert.plan)) (sym middle) (held_now r.before.shelf.files into.plan (plan_text_of I cert.claim cert.plan)) in
           subst (λ f. MayHold f into.plan (plan_text_of I cert.claim cert.plan)) after_is
-          (held_still mid.files into.plan (plan_text_of I cert.claim cert.plan) into.certificate (certificate_text I cert) (apart asked.task.file into asked.given r.words asked.task.asked.words_are) first)
+          (held_still mid.files into.plan (plan_text_of I cert.claim cert.plan) into.certificate (certificate_text I cert) (apart asked.task.file into asked.effort r.words asked.task.asked.words_are) first)
 
       certificate_held : MayHold r.after.shelf.files into.certificate (certificate_text I cert)
       certificate_held = subst (λ f. MayHold f into.certificate (certificate_text I cert)) after_is (held_now mid.files into.certificate (certificate_text I cert))

@@ -15,9 +15,12 @@ use Rattle.tree_search.specs.declared.budget.TheConstants.{DEFAULT_BUDGET}
 use Rattle.tree_search.specs.declared.answer.Answer.{Answer}
 use Rattle.tree_search.specs.declared.answer.Answer.TheVariants.{Optimal, Infeasible, Bracket}
 use Rattle.trial_instance.specs.Trial.{trial_meaning}
+use Rattle.watch_port.specs.declared.limits.Limits.{Limits}
+use Rattle.watch_port.specs.Left.{IsBudgetLeft}
 use Rattle.dualoc_cli.specs.Command.{OnTrial, command_of}
 use Rattle.dualoc_cli.specs.Run.{Run}
 use Rattle.dualoc_cli.specs.Search.{IsFound}
+use Rattle.dualoc_cli.specs.Step.{Heard}
 use Rattle.dualoc_cli.specs.Trial.{HasPlan, IsTrialAnswer}
 use Rattle.dualoc_cli.proofs.Alone.{alone, alone_feasible}
 
@@ -43,17 +46,17 @@ module _ (I : Instance) (valid : IsValid I) (plain : IsPlain I) where
   has_plan budget a found = let came = with_plan budget a found in subst IsSome (sym came.1) refl
 
 -- so it is the cause of a trial's reply
-pub tried : (r : Run) (seed m n : ℕ) (I : Instance) → I ≡ trial_meaning seed m n → command_of r.words ≡ Some (OnTrial seed m n) → IsValid I → IsPlain I
-    → (budget : ℕ) → budget ≡ budget_in I None → (a : Answer) → IsFound I budget (certificate_in I a) → (P : Plan) → plan_in a ≡ Some P
+pub tried : (r : Run) (seed m n : ℕ) (I : Instance) → I ≡ trial_meaning seed m n → (limits : Limits) → command_of r.words ≡ Some (OnTrial seed m n limits) → IsValid I → IsPlain I
+    → (given budget : ℕ) → given ≡ budget_in I None → IsBudgetLeft given budget r.before.heard r.after.heard → (a : Answer) → IsFound I budget (certificate_in I a) → (P : Plan) → plan_in a ≡ Some P
     → (claim : Claim) → claim ≡ claim_in I a → (nodes : ℕ) → nodes ≡ nodes_of (tree_in a) → (opened : ℕ) → opened ≡ length P.sites → IsTrialAnswer r claim nodes budget opened
-tried r seed m n I instance words_are valid plain budget in_force a found P plan_is claim claims nodes nodes_are opened opened_are =
+tried r seed m n I instance limits words_are valid plain given budget in_force left a found P plan_is claim claims nodes nodes_are opened opened_are =
     let came = with_plan I valid plain budget a found in
     let both : Some came.0 ≡ Some P = sym came.1 ∙ plan_is in
     let same : came.0 ≡ P = cc in
     record {
       instance = I;
-      trial = record { seed = seed; sites = m; customers = n; words_are = words_are; instance_is = instance };
-      in_force = in_force;
+      trial = record { seed = seed; sites = m; customers = n; limits = limits; words_are = words_are; instance_is = instance };
+      left = subst (λ b. IsBudgetLeft b budget r.before.heard r.after.heard) in_force left;
       cert = certificate_in I a;
       found = found;
       claims = sym claims;
@@ -63,6 +66,11 @@ tried r seed m n I instance words_are valid plain budget in_force a found P plan
       has_plan = subst (λ c. HasPlan I c P) (sym claims) (subst (HasPlan I (claim_in I a)) same came.2);
       opened_are = sym opened_are;
     }
+
+-- what is left in a part of a run in which the watch was heard so often
+pub heard_left : (r : Run) (asks : Run → Type 0) (before after given budget : ℕ) → Heard asks before after r → IsBudgetLeft given budget before after → IsBudgetLeft given budget r.before.heard r.after.heard
+heard_left r asks before after given budget heard left =
+    subst (λ h. IsBudgetLeft given budget h r.after.heard) (sym heard.since) (subst (λ h. IsBudgetLeft given budget before h) (sym heard.until) left)
 
 -- a budget that isn't given is never past the greatest
 pub default_budget : (I : Instance) (budget : Option ℕ) → MatchOption budget (max_budget I < budget_in I None) (λ b. b ≡ budget_in I None) → IsSome budget

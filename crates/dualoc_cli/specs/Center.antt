@@ -11,6 +11,7 @@ use Rattle.fixed_cost.specs.declared.limits.TheConstants.{MAX_INSTANCE_BYTES}
 use Rattle.instance_text.specs.Own.{own_meaning}
 use Rattle.instance_text.specs.OwnText.{own_text}
 use Rattle.certificate_lines.specs.Text.{certificate_text}
+use Rattle.watch_port.specs.Left.{IsBudgetLeft}
 use Rattle.tree_search.specs.Answer.{most_decisions}
 use Rattle.tree_search.specs.Budget.{max_budget, budget_in}
 use Rattle.plan_radius.specs.Radius.{radius_of}
@@ -23,6 +24,7 @@ use Rattle.center_text.specs.declared.claim.RadiusClaim.TheVariants as radius
 use Rattle.center_text.specs.CenterText.{center_text_of}
 use Rattle.dualoc_cli.specs.declared.reply.CenterEnd.{CenterEnd}
 use Rattle.dualoc_cli.specs.declared.reply.CenterEnd.TheVariants as ends
+use Rattle.dualoc_cli.specs.declared.options.Effort.{Effort}
 use Rattle.dualoc_cli.specs.Command.{ResultFiles, Center}
 use Rattle.dualoc_cli.specs.Run.{Run, HasTask, FailsToWrite}
 use Rattle.dualoc_cli.specs.Check.{DeservesYes}
@@ -32,15 +34,17 @@ abbrev pub counted_by : Option ℕ → Instance → Instance
 counted_by None I = I
 counted_by (Some count) I = with_exact_count I count
 
--- a center of this instance is to be sought with this budget, and the result and the instance of its certificate to be left in these files
-pub record HasCenterTask (r : Run) (into : ResultFiles) (new : List ℕ) (I : Instance) (budget : ℕ) : Type 0 where
-  pub given : Option ℕ
+-- a center of this instance is to be sought with this given budget for each probe, and the result and the instance of its certificate to be left in these files; so much is left of the budget, all of it but
+-- where the watch said "enough"
+pub record HasCenterTask (r : Run) (into : ResultFiles) (new : List ℕ) (I : Instance) (given budget : ℕ) : Type 0 where
+  pub effort : Effort
   pub count : Option ℕ
   pub listed : Instance
-  pub task : HasTask r (Center into new given count) listed
+  pub task : HasTask r (Center into new effort count) listed
   pub counted : I ≡ counted_by count listed
-  pub in_force : budget ≡ budget_in listed given
-  pub within : budget ≤ max_budget listed
+  pub in_force : given ≡ budget_in listed effort.given
+  pub within : given ≤ max_budget listed
+  pub left : IsBudgetLeft given budget r.before.heard r.after.heard
 
 -- the instance that has no feasible plan, as the answer's tree shows: without the lanes of the best radius or more, the whole one, or without those of the low end or more
 abbrev pub cut_instance : Instance → CenterAnswer → Instance
@@ -68,24 +72,25 @@ radius_claim I (Best best plan tree) = radius.Best best
 radius_claim I (Infeasible tree) = radius.Infeasible
 radius_claim I (Open low plan tree at probe) = radius.Bracket low (option_map (radius_of I) plan)
 
--- what is printed; of a bracket also the cost below which the last probe asked for a plan, the nodes of its tree, and the budget that it spent
+-- what is printed; of a bracket also the cost below which the last probe asked for a plan, the nodes of its tree, and the budget that it spent: what was left of the given one
 abbrev pub center_end : Instance → ℕ → CenterAnswer → CenterEnd
 center_end I budget (Best best plan tree) = ends.Best best
 center_end I budget (Infeasible tree) = ends.Infeasible
 center_end I budget (Open low plan tree at probe) = ends.Open low (option_map (radius_of I) plan) at (nodes_of probe) budget
 
--- What a search for a center of the instance comes to with this budget: what its answer shows, and what that means for the plans of the instance; the checker says yes to the certificate for
--- the instance that was cut; and it ends with an open probe only with a budget that not all ways to take the decisions of its splits fit into.
-pub record IsCenterFound (I : Instance) (budget : ℕ) (answer : CenterAnswer) : Type 0 where
-  pub shown : IsCenterAnswer I budget answer
+-- What a search for a center of the instance comes to with this given budget, of which so much is left: what its answer shows, and what that means for the plans of the instance; the checker says yes to the
+-- certificate for the instance that was cut; and it ends with an open probe only with a budget left that not all ways to take the decisions of its splits fit into.
+pub record IsCenterFound (I : Instance) (given budget : ℕ) (answer : CenterAnswer) : Type 0 where
+  pub shown : IsCenterAnswer I given budget answer
   pub holds : CenterHolds I answer
   pub deserved : DeservesYes (cut_instance I answer) (cut_certificate answer)
   pub decided : 2 ^ (most_decisions I + 1) ≤ budget → HasEndedSearch answer
 
 -- a search for a center that the words ask for comes to this
 pub record HasCenter (r : Run) (into : ResultFiles) (new : List ℕ) (I : Instance) (budget : ℕ) (answer : CenterAnswer) : Type 0 where
-  pub asked : HasCenterTask r into new I budget
-  pub found : IsCenterFound I budget answer
+  pub given : ℕ
+  pub asked : HasCenterTask r into new I given budget
+  pub found : IsCenterFound I given budget answer
 
 -- the texts of the three files
 abbrev pub center_plan_text : Instance → CenterAnswer → List ℕ

@@ -8,6 +8,9 @@ use Rattle.fixed_cost.specs.declared.amount.AmountFault.{AmountFault}
 use Rattle.instance_forms.specs.declared.form.FileForm.TheVariants.{Ufl}
 use Rattle.instance_forms.specs.Forms.{InstanceFile, instance_file, file_of, capacity_of}
 use Rattle.dualoc_cli.specs.declared.limits.TheConstants.{MAX_SEED}
+use Rattle.watch_port.specs.declared.limits.Limits.{Limits}
+use Rattle.limit_words.specs.Limits.{no_limits, with_limit, limits_given}
+use Rattle.dualoc_cli.specs.declared.options.Effort.{Effort}
 use Rattle.dualoc_cli.specs.declared.options.Options.{Options}
 use Rattle.dualoc_cli.specs.declared.options.Takes.{Takes}
 use Rattle.dualoc_cli.specs.declared.words.CostAt.{CostAt}
@@ -19,25 +22,25 @@ pub record ResultFiles : Type 0 where
   pub certificate : List ℕ
 
 -- what is to be done with the instance: to solve it by a walk over all sets of sites, to solve it by a search within a budget of nodes,
--- or a budget of its own where none is given, to show the duals to which an ascent raises them, to check the certificate in a file against it,
+-- or a budget of its own where none is given, and within the limits that its watch goes by, to show the duals to which an ascent raises them, to check the certificate in a file against it,
 -- to convert it: to write it to a new file in the suite's own form, to hold a session on it, to show how far a cost may move while the certificate in a file still proves its plan optimal,
 -- to seek a center of it, where a plan may have to open just so many sites, and to leave beside its result a new file with the instance that the certificate speaks of, or to print what each
 -- number of sites costs, from the first to the last
 pub data Job : Type 0 where
   SolveShort : Job
-  SolveLong : (into : ResultFiles) (given : Option ℕ) → Job
+  SolveLong : (into : ResultFiles) (effort : Effort) → Job
   ShowDuals : Job
   Check : (certificate : List ℕ) → Job
   Convert : (new : List ℕ) → Job
   Session : Job
   ShowRange : (certificate : List ℕ) (at : CostAt) → Job
-  Center : (into : ResultFiles) (new : List ℕ) (given count : Option ℕ) → Job
-  Curve : (first last : ℕ) (given : Option ℕ) → Job
+  Center : (into : ResultFiles) (new : List ℕ) (effort : Effort) (count : Option ℕ) → Job
+  Curve : (first last : ℕ) (effort : Effort) → Job
 
--- what words ask for: a job on the instance in a file, or to search the instance of a seed, so many sites and so many customers
+-- what words ask for: a job on the instance in a file, or to search the instance of a seed, so many sites and so many customers, within limits
 pub data Command : Type 0 where
   OnFile : (file : InstanceFile) (job : Job) → Command
-  OnTrial : (seed m n : ℕ) → Command
+  OnTrial : (seed m n : ℕ) (limits : Limits) → Command
 
 -- names of files: none is empty, and all are different
 abbrev pub are_names : List (List ℕ) → Bool
@@ -69,20 +72,26 @@ abbrev pub count_in : List ℕ → Option ℕ
 count_in word = if bytes_eq (take 6 word) (codes "count=") then sites_count (drop 6 word) else None
 
 -- the options with these numbers, where they are there
-abbrev pub options_with : Option ℕ → Option ℕ → Option ℕ → Options
-options_with budget count capacity = record { budget = budget; count = count; capacity = capacity }
+abbrev pub options_with : Option ℕ → Option ℕ → Limits → Option ℕ → Options
+options_with budget count limits capacity = record { budget = budget; count = count; limits = limits; capacity = capacity }
 
 -- what an option gives, where the command takes it and it isn't there yet
 abbrev pub given_once : {A : Type 0} (taken : Bool) → Option A → Option A → Option A
 given_once true None given = given
 given_once _ _ _ = None
 
+-- the limits with the one that a word is, where the command takes it and it isn't there yet
+abbrev pub limit_taken : (taken : Bool) → List ℕ → Limits → Option Limits
+limit_taken true word old = with_limit word old
+limit_taken false word old = None
+
 -- the options with the one that a word is; every command takes a capacity
 abbrev pub with_option : Takes → List ℕ → Options → Option Options
 with_option takes word old =
-    option_or (option_map (λ n. options_with (Some n) old.count old.capacity) (given_once takes.budget old.budget (budget_of word)))
-    (option_or (option_map (λ p. options_with old.budget (Some p) old.capacity) (given_once takes.count old.count (count_in word)))
-    (option_map (λ a. options_with old.budget old.count (Some a)) (given_once true old.capacity (capacity_of word))))
+    option_or (option_map (λ n. options_with (Some n) old.count old.limits old.capacity) (given_once takes.budget old.budget (budget_of word)))
+    (option_or (option_map (λ p. options_with old.budget (Some p) old.limits old.capacity) (given_once takes.count old.count (count_in word)))
+    (option_or (option_map (λ limits. options_with old.budget old.count limits old.capacity) (limit_taken takes.limits word old.limits))
+    (option_map (λ a. options_with old.budget old.count old.limits (Some a)) (given_once true old.capacity (capacity_of word)))))
 
 -- the options with those that the words are
 unfoldable pub options_from : Takes → Options → List (List ℕ) → Option Options
@@ -91,17 +100,21 @@ options_from takes old (word ∷ words) = option_and_then (λ o. options_from ta
 
 -- the options that the words behind the names are: each is one that the command takes, none is there twice, and they come in any order
 abbrev pub options_of : Takes → List (List ℕ) → Option Options
-options_of takes words = options_from takes (options_with None None None) words
+options_of takes words = options_from takes (options_with None None no_limits None) words
+
+-- what a search may spend
+abbrev pub effort_in : Options → Effort
+effort_in o = record { given = o.budget; limits = o.limits }
 
 -- what commands take
 abbrev pub no_budget : Takes
-no_budget = record { budget = false; count = false }
+no_budget = record { budget = false; count = false; limits = false }
 
 abbrev pub a_budget : Takes
-a_budget = record { budget = true; count = false }
+a_budget = record { budget = true; count = false; limits = true }
 
 abbrev pub a_budget_and_count : Takes
-a_budget_and_count = record { budget = true; count = true }
+a_budget_and_count = record { budget = true; count = true; limits = true }
 
 -- a job on that file
 abbrev pub job_on : List ℕ → List ℕ → Job → Option ℕ → Option Command
@@ -123,7 +136,7 @@ short_of form name = if bytes_eq form (codes "ufl") && are_names (name ∷ []) t
 unfoldable pub solve_command : List (List ℕ) → Option Command
 solve_command (form ∷ file ∷ []) = short_of form file
 solve_command (form ∷ file ∷ plan ∷ certificate ∷ options) =
-    on_files form file (plan ∷ certificate ∷ []) a_budget (λ o. SolveLong (into_files plan certificate) o.budget) options
+    on_files form file (plan ∷ certificate ∷ []) a_budget (λ o. SolveLong (into_files plan certificate) (effort_in o)) options
 solve_command _ = None
 
 -- the words behind `duals`
@@ -172,24 +185,25 @@ range_command _ = None
 abbrev pub are_trial_numbers : ℕ → ℕ → ℕ → Bool
 are_trial_numbers seed m n = nat_le seed MAX_SEED && (nat_le 1 m && nat_le m MAX_SITES) && (nat_le 1 n && nat_le n MAX_CUSTOMERS) && nat_le (m * n) MAX_LANES
 
-abbrev pub trial_of : ℕ → ℕ → ℕ → Option Command
-trial_of seed m n = if are_trial_numbers seed m n then Some (OnTrial seed m n) else None
+-- a trial of these numbers, within the limits that the words behind them are
+abbrev pub trial_of : ℕ → ℕ → ℕ → List (List ℕ) → Option Command
+trial_of seed m n words = if are_trial_numbers seed m n then option_map (OnTrial seed m n) (limits_given words) else None
 
 -- the words behind `trial`
 unfoldable pub trial_command : List (List ℕ) → Option Command
-trial_command (seed ∷ m ∷ n ∷ []) =
-    option_and_then (λ s. option_and_then (λ sites. option_and_then (λ customers. trial_of s sites customers) (plain_count n)) (plain_count m)) (plain_count seed)
+trial_command (seed ∷ m ∷ n ∷ words) =
+    option_and_then (λ s. option_and_then (λ sites. option_and_then (λ customers. trial_of s sites customers words) (plain_count n)) (plain_count m)) (plain_count seed)
 trial_command _ = None
 
 -- the words behind `center`
 unfoldable pub center_command : List (List ℕ) → Option Command
 center_command (form ∷ file ∷ plan ∷ certificate ∷ new ∷ options) =
-    on_files form file (plan ∷ certificate ∷ new ∷ []) a_budget_and_count (λ o. Center (into_files plan certificate) new o.budget o.count) options
+    on_files form file (plan ∷ certificate ∷ new ∷ []) a_budget_and_count (λ o. Center (into_files plan certificate) new (effort_in o) o.count) options
 center_command _ = None
 
 -- a curve from one number of sites to another that is no less
 abbrev pub curve_of : List ℕ → List ℕ → ℕ → ℕ → List (List ℕ) → Option Command
-curve_of form file first last options = if nat_le first last then on_files form file [] a_budget (λ o. Curve first last o.budget) options else None
+curve_of form file first last options = if nat_le first last then on_files form file [] a_budget (λ o. Curve first last (effort_in o)) options else None
 
 -- the words behind `curve`
 unfoldable pub curve_command : List (List ℕ) → Option Command

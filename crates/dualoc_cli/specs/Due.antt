@@ -170,7 +170,7 @@ pub record EndsInCurve (r : Run) (status : Status) : Type 0 where
   pub line : List ℕ
   pub row_is : IsCurveRow r done
   pub asked_on : row_is.first + row_is.counts ≤ row_is.last
-  pub next : IsCurveLine row_is.instance row_is.budget (row_is.first + row_is.counts) line
+  pub next : IsCurveLine row_is.instance row_is.budget row_is.heard r.after.heard (row_is.first + row_is.counts) line
   pub printed : PrintsFront done line Done status r.before.output r.after.output
 
 abbrev pub Ends : Run → Status → Type 0
@@ -181,19 +181,19 @@ Ends r status = EndsWithReply r status ⊎ (EndsWithoutMemory r status ⊎ (Ends
 -- which files a job may change: the long form of `solve` those of its result, a conversion the new one, a session those that its lines write, as its steps tell, a center its three, and any other none
 abbrev pub KeepsFiles : Run → Job → Type 0
 KeepsFiles r SolveShort = ChangesNoFile r
-KeepsFiles r (SolveLong into given) = ChangesNoFile r ⊎ HasBegun r into
+KeepsFiles r (SolveLong into effort) = ChangesNoFile r ⊎ HasBegun r into
 KeepsFiles r ShowDuals = ChangesNoFile r
 KeepsFiles r (Check certificate) = ChangesNoFile r
 KeepsFiles r (Convert new) = ChangesNoFile r ⊎ HasNewBegun r new
 KeepsFiles r Session = ChangesNoFile r ⊎ HoldsSession r
 KeepsFiles r (ShowRange certificate at) = ChangesNoFile r
-KeepsFiles r (Center into new given count) = ChangesNoFile r ⊎ HasCenterBegun r into new
-KeepsFiles r (Curve first last given) = ChangesNoFile r
+KeepsFiles r (Center into new effort count) = ChangesNoFile r ⊎ HasCenterBegun r into new
+KeepsFiles r (Curve first last effort) = ChangesNoFile r
 
 abbrev pub Leaves : Run → Option Command → Type 0
 Leaves r None = ChangesNoFile r
 Leaves r (Some (OnFile file job)) = KeepsFiles r job
-Leaves r (Some (OnTrial seed m n)) = ChangesNoFile r
+Leaves r (Some (OnTrial seed m n limits)) = ChangesNoFile r
 
 -- what a command leaves of the input: all of it, but for a session, which reads it
 abbrev pub KeepsInput : Run → Option Command → Type 0
@@ -251,15 +251,15 @@ EndsAsInput ends (Some bytes) = (stop : Stop) → IsDueStop session_limits bytes
 -- what is due for a job on an instance, where the files are told
 abbrev pub IsComplete : Run → Job → Instance → Status → Type 0
 IsComplete r SolveShort I status = length I.sites ≤ MAX_WALK_SITES → EndsAs r Done status
-IsComplete r (SolveLong into given) I status = budget_in I given ≤ max_budget I → EndsSearch (λ due. EndsAs r due status) I (budget_in I given) status
+IsComplete r (SolveLong into effort) I status = budget_in I effort.given ≤ max_budget I → EndsSearch r (λ due. EndsAs r due status) I (budget_in I effort.given) status
 IsComplete r ShowDuals I status = EndsAs r Done status
 IsComplete r (Check name) I status = IsChecked r (λ due. EndsAs r due status) name I status
 IsComplete r (Convert new) I status = EndsAs r Done status
 IsComplete r Session I status = EndsAsInput (λ due. EndsAs r due status) r.before.input.left
 IsComplete r (ShowRange name at) I status = IsRangeDue r (λ due. EndsAs r due status) name at I status
-IsComplete r (Center into new given count) I status =
-    budget_in I given ≤ max_budget I → EndsSearch (λ due. EndsAs r due status) (counted_by count I) (budget_in I given) status
-IsComplete r (Curve first last given) I status = budget_in I given ≤ max_budget I → EndsAs r Done status
+IsComplete r (Center into new effort count) I status =
+    budget_in I effort.given ≤ max_budget I → EndsSearch r (λ due. EndsAs r due status) (counted_by count I) (budget_in I effort.given) status
+IsComplete r (Curve first last effort) I status = budget_in I effort.given ≤ max_budget I → EndsAs r Done status
 
 -- What a run does.
 pub record Runs (r : Run) (status : Status) : Type 0 where
@@ -286,4 +286,4 @@ pub record Runs (r : Run) (status : Status) : Type 0 where
   -- So an instance of few sites is solved, any instance is searched, also for its center, has its duals and its curve, and is converted, a certificate has its yes or its no, a range is shown or refused or has its no, and a session ends as its input says.
   pub complete : IsTold r → (job : Job) (I : Instance) → HasTask r job I → IsComplete r job I status
   -- A trial ends with a plan.
-  pub tried : IsTold r → (I : Instance) → HasTrial r I → EndsTrial (λ due. EndsAs r due status) I (budget_in I None) status
+  pub tried : IsTold r → (I : Instance) → HasTrial r I → EndsTrial r (λ due. EndsAs r due status) I (budget_in I None) status

@@ -1,22 +1,36 @@
--- A run: its words, and what its ports tell and count at its start and at its end. What a file holds is said as far as the shelf tells
+-- A run: its words, and what is outside of it at its start and at its end: what its ports tell and count, and how often its watch said "enough". What a file holds is said as far as the shelf tells
 -- it: of a shelf that tells nothing, as the host's, only that there are such bytes. A count that rose is one that is greater or stands at the last value of its counter.
 use Rattle.std.specs.Prelude.{◌≡◌, ℕ, ◌<◌, ◌≤◌, List, length, Some, Ok, Err}
 use Rattle.shelf_port.specs.Files.{MayHold, Rose}
-use Rattle.shelf_port.specs.Ports.{Ports}
+use Rattle.shelf_port.specs.Ports.{ShelfState, SourceState, SinkState}
 use Rattle.location_terms.specs.Instance.{Instance}
 use Rattle.fixed_cost.specs.declared.fault.FileFault.{FileFault}
 use Rattle.fixed_cost.specs.declared.limits.TheConstants.{MAX_INSTANCE_BYTES}
 use Rattle.instance_forms.specs.Forms.{InstanceFile, meaning_in}
 use Rattle.dualoc_cli.specs.Command.{OnFile, Job, command_of}
 
--- the words of a run, and what its ports tell and count at its start and at its end
+-- what is outside of a run at a moment: what its ports tell and count, and how often its watch had said "enough" by then
+pub record Outside : Type 0 where
+  pub shelf : ShelfState
+  pub input : SourceState
+  pub output : SinkState
+  pub heard : ℕ
+
+abbrev pub outside_of : ShelfState → SourceState → SinkState → ℕ → Outside
+outside_of shelf input output heard = record { shelf = shelf; input = input; output = output; heard = heard }
+
+-- the words of a run, and what is outside of it at its start and at its end
 pub record Run : Type 0 where
   pub words : List (List ℕ)
-  pub before : Ports
-  pub after : Ports
+  pub before : Outside
+  pub after : Outside
 
-abbrev pub run_of : List (List ℕ) → Ports → Ports → Run
+abbrev pub run_of : List (List ℕ) → Outside → Outside → Run
 run_of words before after = record { words = words; before = before; after = after }
+
+-- the watch said nothing in the run
+abbrev pub IsQuiet : Run → Type 0
+IsQuiet r = r.after.heard ≡ r.before.heard
 
 -- the shelf tells the same of its files at the start and at the end
 abbrev pub ChangesNoFile : Run → Type 0

@@ -8,6 +8,7 @@ use Rattle.location_terms.specs.Certificate.{Certificate}
 use Rattle.location_terms.specs.Tree.{Tree, nodes_of}
 use Rattle.location_terms.specs.declared.claim.Claim.{Claim}
 use Rattle.location_terms.specs.declared.claim.Claim.TheVariants as claimed
+use Rattle.watch_port.specs.Left.{IsBudgetLeft}
 use Rattle.dual_value.specs.Zeros.{zeros}
 use Rattle.branch_tree.specs.Made.{leaf_of}
 use Rattle.tree_search.specs.Grown.{IsGrownFrom, PlansWereSought}
@@ -18,14 +19,15 @@ use Rattle.certificate_lines.specs.Text.{certificate_text}
 use Rattle.dualoc_cli.specs.declared.status.Status.{Status}
 use Rattle.dualoc_cli.specs.declared.status.Status.TheVariants.{Done, Infeasible, Bracket}
 use Rattle.dualoc_cli.specs.Command.{ResultFiles, Job, SolveLong, Center, Curve}
-use Rattle.dualoc_cli.specs.Run.{Run, HasTask, FailsToWrite}
+use Rattle.dualoc_cli.specs.declared.options.Effort.{Effort}
+use Rattle.dualoc_cli.specs.Run.{Run, IsQuiet, HasTask, FailsToWrite}
 use Rattle.dualoc_cli.specs.Check.{DeservesYes}
 
 -- the budget that is given for a job of searches
 abbrev pub budget_given : Job → Option ℕ
-budget_given (SolveLong into given) = given
-budget_given (Center into new given count) = given
-budget_given (Curve first last given) = given
+budget_given (SolveLong into effort) = effort.given
+budget_given (Center into new effort count) = effort.given
+budget_given (Curve first last effort) = effort.given
 budget_given job = None
 
 -- an instance is to be searched with a budget past its greatest
@@ -37,12 +39,12 @@ pub record HasLargeBudget (r : Run) : Type 0 where
   pub gives : budget_given job ≡ Some budget
   pub large : max_budget instance < budget
 
--- the instance is to be solved with this budget, and the result to be left in these files
+-- the instance is to be solved, and the result to be left in these files; this is the budget in force, or what is left of it where the watch said "enough"
 pub record HasSearch (r : Run) (into : ResultFiles) (I : Instance) (budget : ℕ) : Type 0 where
-  pub given : Option ℕ
-  pub task : HasTask r (SolveLong into given) I
-  pub in_force : budget ≡ budget_in I given
-  pub within : budget ≤ max_budget I
+  pub effort : Effort
+  pub task : HasTask r (SolveLong into effort) I
+  pub within : budget_in I effort.given ≤ max_budget I
+  pub left : IsBudgetLeft (budget_in I effort.given) budget r.before.heard r.after.heard
 
 -- a search ends with a bracket only for the cause that the search itself names: its budget is spent, and a leaf is open; made is how many nodes its splits made
 abbrev pub IsEnd : Instance → ℕ → Claim → Option Plan → Tree → ℕ → Type 0
@@ -106,7 +108,7 @@ pub record HasBegun (r : Run) (into : ResultFiles) : Type 0 where
   pub result : HasResult r into instance budget cert
   pub left : IsPlanBegun r into instance cert ⊎ IsCertificateBegun r into instance cert
 
--- What is due for a search with this budget: it ends with an optimal plan, shows that there is none, or ends with a bracket, which comes only with a budget that not
+-- What is due for a search with this budget: it ends with an optimal plan, shows that there is none, or ends with a bracket, which comes, where the watch says nothing, only with a budget that not
 -- all ways to take the decisions of its splits fit into. What hinders a run is the same for all three, so it stands with the first: `ends` says that the run ends with the status that is due, or is hindered.
-abbrev pub EndsSearch : (ends : Status → Type 0) → Instance → ℕ → Status → Type 0
-EndsSearch ends I budget status = ends Done ⊎ ((status ≡ Infeasible) ⊎ ((status ≡ Bracket) × (budget < 2 ^ (most_decisions I + 1))))
+abbrev pub EndsSearch : Run → (ends : Status → Type 0) → Instance → ℕ → Status → Type 0
+EndsSearch r ends I budget status = ends Done ⊎ ((status ≡ Infeasible) ⊎ ((status ≡ Bracket) × (IsQuiet r → budget < 2 ^ (most_decisions I + 1))))

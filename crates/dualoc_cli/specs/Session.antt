@@ -19,7 +19,7 @@ use Rattle.dualoc_cli.specs.Run.{Run, HasTask}
 pub record IsSessionRow (r : Run) (stop : Stop) (row : List ℕ) : Type 0 where
   pub instance : Instance
   pub task : HasTask r Session instance
-  pub run : SessionRun session_limits instance r.before.shelf r.after.shelf r.before.input r.after.input stop row
+  pub run : SessionRun session_limits instance r.before.shelf r.after.shelf r.before.input r.after.input r.before.heard r.after.heard stop row
 
 -- a session stopped so
 abbrev pub StopsAt : Run → Stop → Type 0

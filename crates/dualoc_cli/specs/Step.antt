@@ -3,12 +3,13 @@
 use Rattle.std.specs.Prelude.{◌≡◌, ◌⊎◌, ℕ, ◌+◌, ◌<◌, ◌≤◌, List, [], ◌++◌, length, take, IfSome}
 use Rattle.shelf_port.specs.Files.{NeverFalls, Rose}
 use Rattle.shelf_port.specs.Streams.{with_back, RefusedLast}
-use Rattle.shelf_port.specs.Ports.{ShelfState, SinkState, Ports}
+use Rattle.shelf_port.specs.Ports.{ShelfState, SinkState}
 use Rattle.shelf_port.specs.declared.fault.SinkFault.{SinkFault}
 use Rattle.shelf_port.specs.declared.fault.SinkFault.TheVariants as sink
 use Rattle.location_terms.specs.declared.limits.TheConstants.{MAX_SITES}
-use Rattle.location_terms.specs.Instance.{AreSizes}
+use Rattle.location_terms.specs.Instance.{Instance, AreSizes}
 use Rattle.instance_store.specs.Small.{IsSmall}
+use Rattle.center_solve.specs.declared.answer.CenterAnswer.{CenterAnswer}
 use Rattle.instance_forms.specs.declared.form.FileForm.TheVariants.{Ufl}
 use Rattle.instance_forms.specs.Forms.{InstanceFile, file_in}
 use Rattle.dualoc_cli.specs.declared.status.Status.{Status}
@@ -17,7 +18,7 @@ use Rattle.dualoc_cli.specs.declared.reply.Reply.{Reply}
 use Rattle.dualoc_cli.specs.declared.words.Command as told
 use Rattle.dualoc_cli.specs.declared.words.Command.TheVariants as words_in_memory
 use Rattle.dualoc_cli.specs.declared.words.FileJob as told_file_job
-use Rattle.dualoc_cli.specs.declared.words.TrialNumbers as told_numbers
+use Rattle.dualoc_cli.specs.declared.words.TrialTask as told_trial
 use Rattle.dualoc_cli.specs.declared.words.CenterTask as told_center
 use Rattle.dualoc_cli.specs.declared.words.CurveTask as told_curve
 use Rattle.dualoc_cli.specs.declared.words.Task as told_task
@@ -28,8 +29,9 @@ use Rattle.dualoc_cli.specs.declared.words.Job.TheVariants as job_in_memory
 use Rattle.dualoc_cli.specs.declared.halt.Halt.{Halt}
 use Rattle.dualoc_cli.specs.declared.halt.Halt.TheVariants as halt
 use Rattle.dualoc_cli.specs.Command.{ResultFiles, into_files, Job, SolveShort, SolveLong, ShowDuals, Check, Convert, Session, ShowRange, Command, OnFile, OnTrial, Center, Curve, command_of}
-use Rattle.dualoc_cli.specs.Run.{Run}
+use Rattle.dualoc_cli.specs.Run.{Outside, Run}
 use Rattle.dualoc_cli.specs.Session.{IsSessionRow}
+use Rattle.dualoc_cli.specs.Center.{IsCenterFound}
 use Rattle.dualoc_cli.specs.Curve.{IsCurveLine, IsCurveRow}
 use Rattle.dualoc_cli.specs.Due.{IsCause, IsInRow, IsUntouched, ReadsNoLine, Leaves, KeepsInput}
 use Rattle.dualoc_cli.specs.Talk.{GainsWhole}
@@ -40,14 +42,14 @@ abbrev pub asked_result : told_result.ResultFiles → ResultFiles
 asked_result into = into_files into.plan.now into.certificate.now
 
 abbrev pub asked_center : told_center.CenterTask → Job
-asked_center asks = Center (asked_result asks.into) asks.new.now asks.given asks.count
+asked_center asks = Center (asked_result asks.into) asks.new.now asks.effort asks.count
 
 abbrev pub asked_curve : told_curve.CurveTask → Job
-asked_curve asks = Curve asks.first asks.last asks.given
+asked_curve asks = Curve asks.first asks.last asks.effort
 
 abbrev pub asked_task : told_task.Task → Job
 asked_task in_memory.SolveShort = SolveShort
-asked_task (in_memory.SolveLong into given) = SolveLong (asked_result into) given
+asked_task (in_memory.SolveLong into effort) = SolveLong (asked_result into) effort
 asked_task in_memory.ShowDuals = ShowDuals
 asked_task (in_memory.Check certificate) = Check certificate.now
 asked_task (in_memory.Convert new) = Convert new.now
@@ -62,17 +64,17 @@ asked_job (job_in_memory.Curve asks) = asked_curve asks
 abbrev pub asked_on_file : told_file_job.FileJob → Command
 asked_on_file asks = OnFile (file_in asks.file) (asked_job asks.job)
 
-abbrev pub asked_trial : told_numbers.TrialNumbers → Command
-asked_trial numbers = OnTrial numbers.seed numbers.sites numbers.custs
+abbrev pub asked_trial : told_trial.TrialTask → Command
+asked_trial asks = OnTrial asks.seed asks.sites asks.custs asks.limits
 
 abbrev pub asked : told.Command → Command
 asked (words_in_memory.OnFile asks) = asked_on_file asks
-asked (words_in_memory.OnTrial numbers) = asked_trial numbers
+asked (words_in_memory.OnTrial asks) = asked_trial asks
 
 -- the numbers of open sites that a job names are no more than an instance may have, and the first one of a curve is not above the last
 abbrev pub HasFewCounts : Job → Type 0
-HasFewCounts (Center into new given count) = IfSome count (λ n. n ≤ MAX_SITES)
-HasFewCounts (Curve first last given) = (first ≤ last) × (last ≤ MAX_SITES)
+HasFewCounts (Center into new effort count) = IfSome count (λ n. n ≤ MAX_SITES)
+HasFewCounts (Curve first last effort) = (first ≤ last) × (last ≤ MAX_SITES)
 HasFewCounts job = Unit {0}
 
 -- what is so of every command: what it gives for the word `capacity` is an amount, the sets of sites are walked over in files of the form `ufl` alone, and its numbers of open sites are small
@@ -84,7 +86,7 @@ pub record IsSuited (file : InstanceFile) (job : Job) : Type 0 where
 -- what is so of what words ask for: a trial has numbers of sites and of customers within the limits
 abbrev pub IsSound : Command → Type 0
 IsSound (OnFile file job) = IsSuited file job
-IsSound (OnTrial seed m n) = AreSizes m n
+IsSound (OnTrial seed m n limits) = AreSizes m n
 
 -- A part of the run had the shelf so at its start and at its end. No file was changed before it or behind it, and no count of faults fell.
 pub record Covers (r : Run) (old new : ShelfState) : Type 0 where
@@ -95,19 +97,31 @@ pub record Covers (r : Run) (old new : ShelfState) : Type 0 where
   pub writes_since : NeverFalls r.before.shelf.writes old.writes
   pub writes_until : NeverFalls new.writes r.after.shelf.writes
 
+-- a search for a center of the instance came to this answer with some given budget, of which so much is left
+abbrev pub IsCenterSought : Instance → ℕ → CenterAnswer → Type 0
+IsCenterSought I budget answer = (given : ℕ) × IsCenterFound I given budget answer
+
 -- this holds of every run that asks so, where a part of the run has these states of the shelf at its start and at its end
 abbrev pub InRuns : (Run → Type 0) → ShelfState → ShelfState → (Run → Type 0) → Type 0
 InRuns asks old new holds = (r : Run) → asks r → Covers r old new → holds r
 
--- A part of the run had the ports so at its start and at its end. Behind it nothing is read, and what is printed is the last reply's text.
-pub record Spans (r : Run) (old new : Ports) : Type 0 where
+-- a run asks so, and its watch had said "enough" so often at the start of a part of it and at its end: it is asked in no other part
+pub record Heard (asks : Run → Type 0) (before after : ℕ) (r : Run) : Type 0 where
+  pub asked : asks r
+  pub since : r.before.heard ≡ before
+  pub until : r.after.heard ≡ after
+
+-- A part of the run had the outside so at its start and at its end. Behind it nothing is read, the watch isn't asked, and what is printed is the last reply's text.
+pub record Spans (r : Run) (old new : Outside) : Type 0 where
   pub shelf : Covers r old.shelf new.shelf
   pub input : old.input ≡ r.before.input
   pub input_left : new.input ≡ r.after.input
   pub output : old.output ≡ r.before.output
+  pub heard : r.before.heard ≡ old.heard
+  pub heard_left : r.after.heard ≡ new.heard
 
--- this holds of every run that asks so, where a part of the run has these states of the ports at its start and at its end
-abbrev pub InSpans : (Run → Type 0) → Ports → Ports → (Run → Type 0) → Type 0
+-- this holds of every run that asks so, where a part of the run has these states of the outside at its start and at its end
+abbrev pub InSpans : (Run → Type 0) → Outside → Outside → (Run → Type 0) → Type 0
 InSpans asks old new holds = (r : Run) → asks r → Spans r old new → holds r
 
 -- a part of the run comes to this reply, whose text is to be printed behind the replies in a row
@@ -142,7 +156,7 @@ pub record IsCurveStopped (r : Run) (output : SinkState) (fault : SinkFault) : T
   pub line : List ℕ
   pub row_is : IsCurveRow r done
   pub asked_on : row_is.first + row_is.counts ≤ row_is.last
-  pub next : IsCurveLine row_is.instance row_is.budget (row_is.first + row_is.counts) line
+  pub next : IsCurveLine row_is.instance row_is.budget row_is.heard r.after.heard (row_is.first + row_is.counts) line
   pub len : ℕ
   pub front : len < length line
   pub gained : output.written ≡ with_back r.before.output.written (done ++ take len line)

@@ -3,7 +3,7 @@
 use Rattle.std.specs.Prelude.{◌≡◌, ℕ, Bool, ◌+◌, ◌-◌, ◌<◌, ◌≤◌, List, [], ◌∷◌, ◌++◌, length, take, Some, option_map, false}
 use Rattle.shelf_port.specs.Files.{Rose, NeverFalls}
 use Rattle.shelf_port.specs.Streams.{with_front, with_back, RefusedLast}
-use Rattle.shelf_port.specs.Ports.{ShelfState, SourceState, SinkState, Ports}
+use Rattle.shelf_port.specs.Ports.{ShelfState, SourceState, SinkState}
 use Rattle.shelf_port.specs.declared.fault.SinkFault.{SinkFault}
 use Rattle.shelf_port.specs.declared.fault.SinkFault.TheVariants as sink
 use Rattle.shelf_lines.specs.Line.{IsLine}
@@ -19,6 +19,7 @@ use Rattle.whatif_session.specs.Calls.{IsLeftOver}
 use Rattle.dualoc_cli.specs.declared.reply.Reply.{Reply}
 use Rattle.dualoc_cli.specs.declared.halt.Halt.{Halt}
 use Rattle.dualoc_cli.specs.declared.halt.Halt.TheVariants as halt
+use Rattle.dualoc_cli.specs.Run.{Outside}
 use Rattle.dualoc_cli.specs.Session.{AfterSession, row_end}
 
 -- What was read.
@@ -69,15 +70,15 @@ pub record GainsFront (text : List ℕ) (fault : SinkFault) (old new : SinkState
 -- One line.
 
 -- it was stepped, and its reply was written
-pub record IsStepped (old : SessionView) (line : List ℕ) (shelf : ShelfState) (out : SinkState) (new : SessionView) (shelf_new : ShelfState) (out_new : SinkState) : Type 0 where
+pub record IsStepped (old : SessionView) (line : List ℕ) (shelf : ShelfState) (heard : ℕ) (out : SinkState) (new : SessionView) (shelf_new : ShelfState) (heard_new : ℕ) (out_new : SinkState) : Type 0 where
   pub reply : List ℕ
-  pub step : SessionStep (moment_at old.state shelf) line reply (moment_at new.state shelf_new)
+  pub step : SessionStep (moment_at old.state shelf heard) line reply (moment_at new.state shelf_new heard_new)
   pub serial : last_serial new.state ≤ last_serial old.state + 1
   pub gains : GainsWhole reply out out_new
 
 -- and this says whether it ends the session
-abbrev pub IsAnsweredLine : SessionView → List ℕ → ShelfState → SinkState → SessionView → ShelfState → SinkState → Bool → Type 0
-IsAnsweredLine old line shelf out new shelf_new out_new ended = IsStepped old line shelf out new shelf_new out_new × (ended ≡ quits line)
+abbrev pub IsAnsweredLine : SessionView → List ℕ → ShelfState → ℕ → SinkState → SessionView → ShelfState → ℕ → SinkState → Bool → Type 0
+IsAnsweredLine old line shelf heard out new shelf_new heard_new out_new ended = IsStepped old line shelf heard out new shelf_new heard_new out_new × (ended ≡ quits line)
 
 -- memory ran out within its step
 pub record IsForgotten (old : SessionView) (line : List ℕ) (shelf : ShelfState) (out : SinkState) (shelf_new : ShelfState) (out_new : SinkState) : Type 0 where
@@ -87,46 +88,47 @@ pub record IsForgotten (old : SessionView) (line : List ℕ) (shelf : ShelfState
   pub silent : out_new ≡ out
 
 -- it was stepped, and its reply was refused
-pub record IsRefusedReply (old : SessionView) (line : List ℕ) (shelf : ShelfState) (out : SinkState) (fault : SinkFault) (shelf_new : ShelfState) (out_new : SinkState) : Type 0 where
+pub record IsRefusedReply (old : SessionView) (line : List ℕ) (shelf : ShelfState) (heard : ℕ) (out : SinkState) (fault : SinkFault) (shelf_new : ShelfState) (heard_new : ℕ) (out_new : SinkState) : Type 0 where
   pub new : SessionView
   pub reply : List ℕ
-  pub step : SessionStep (moment_at old.state shelf) line reply (moment_at new.state shelf_new)
+  pub step : SessionStep (moment_at old.state shelf heard) line reply (moment_at new.state shelf_new heard_new)
   pub gains : GainsFront reply fault out out_new
 
-abbrev pub IsUnanswered : SessionView → List ℕ → ShelfState → SinkState → ShelfState → SinkState → Halt → Type 0
-IsUnanswered old line shelf out shelf_new out_new halt.NoMemory = IsForgotten old line shelf out shelf_new out_new
-IsUnanswered old line shelf out shelf_new out_new (halt.Refused fault) = IsRefusedReply old line shelf out fault shelf_new out_new
+abbrev pub IsUnanswered : SessionView → List ℕ → ShelfState → ℕ → SinkState → ShelfState → ℕ → SinkState → Halt → Type 0
+IsUnanswered old line shelf heard out shelf_new heard_new out_new halt.NoMemory = IsForgotten old line shelf out shelf_new out_new
+IsUnanswered old line shelf heard out shelf_new heard_new out_new (halt.Refused fault) = IsRefusedReply old line shelf heard out fault shelf_new heard_new out_new
 
 -- All lines.
 
--- a session that began on this instance at these ports stepped through the lines that its reader handed out, and each was answered
-pub record HasStepped (limits : InputLimits) (I : Instance) (from now : Ports) (present : SessionView) (reader : InputState) : Type 0 where
+-- a session that began on this instance at this outside stepped through the lines that its reader handed out, and each was answered
+pub record HasStepped (limits : InputLimits) (I : Instance) (from now : Outside) (present : SessionView) (reader : InputState) : Type 0 where
   pub lines : List (List ℕ)
   pub row : List ℕ
   pub first : Moment
   pub begins : first.session ≡ begun_session I
   pub files_before : first.files ≡ from.shelf.files
+  pub heard_first : first.heard ≡ from.heard
   pub since : NeverFalls from.shelf.writes first.failed_writes
-  pub steps : StepsThrough first lines row (moment_at present.state now.shelf)
-  pub heard : HasRead limits from.input now.input reader lines
-  pub serial : last_serial present.state + heard.left ≤ limits.input
+  pub steps : StepsThrough first lines row (moment_at present.state now.shelf now.heard)
+  pub read : HasRead limits from.input now.input reader lines
+  pub serial : last_serial present.state + read.left ≤ limits.input
   pub gains : GainsWhole row from.output now.output
 
--- a session stopped so between these ports, and its replies in a row were written
-pub record IsHeld (limits : InputLimits) (I : Instance) (from to : Ports) (stop : Stop) : Type 0 where
+-- a session stopped so between these states of the outside, and its replies in a row were written
+pub record IsHeld (limits : InputLimits) (I : Instance) (from to : Outside) (stop : Stop) : Type 0 where
   pub row : List ℕ
-  pub run : SessionRun limits I from.shelf to.shelf from.input to.input stop row
+  pub run : SessionRun limits I from.shelf to.shelf from.input to.input from.heard to.heard stop row
   pub gains : GainsWhole row from.output to.output
 
--- a session ended between these ports, with this reply to follow
-abbrev pub IsEnded : InputLimits → Instance → Ports → Ports → Reply → Type 0
+-- a session ended between these states of the outside, with this reply to follow
+abbrev pub IsEnded : InputLimits → Instance → Outside → Outside → Reply → Type 0
 IsEnded limits I from to reply = (stop : Stop) × (row_end reply ≡ Some (AfterSession stop)) × IsHeld limits I from to stop
 
 -- a reply in a row was refused
-pub record IsCut (limits : InputLimits) (I : Instance) (from to : Ports) (fault : SinkFault) : Type 0 where
+pub record IsCut (limits : InputLimits) (I : Instance) (from to : Outside) (fault : SinkFault) : Type 0 where
   pub done : List ℕ
   pub reply : List ℕ
-  pub run : SessionRun limits I from.shelf to.shelf from.input to.input AtRefusedWrite (done ++ reply)
+  pub run : SessionRun limits I from.shelf to.shelf from.input to.input from.heard to.heard AtRefusedWrite (done ++ reply)
   pub last : RepliesLast run.first run.lines done reply run.last
   pub len : ℕ
   pub front : len < length reply
@@ -135,6 +137,6 @@ pub record IsCut (limits : InputLimits) (I : Instance) (from to : Ports) (fault 
   pub failed : fault ≡ sink.Failed → Rose from.output.faults to.output.faults
 
 -- why a session has no last reply
-abbrev pub IsHalted : InputLimits → Instance → Ports → Ports → Halt → Type 0
+abbrev pub IsHalted : InputLimits → Instance → Outside → Outside → Halt → Type 0
 IsHalted limits I from to halt.NoMemory = IsHeld limits I from to OutOfMemory
 IsHalted limits I from to (halt.Refused fault) = IsCut limits I from to fault

@@ -7,16 +7,19 @@ ghost use Rattle.shelf_port.specs.Ports.{shelf_state};
 ghost use Rattle.location_terms.specs.declared.limits.TheConstants.{MAX_SITES};
 ghost use Rattle.location_terms.specs.Plan.{IsFeasible};
 ghost use Rattle.plan_radius.specs.Radius.{radius_of};
+ghost use Rattle.watch_port.specs.Left.{IsBudgetLeft};
 ghost use Rattle.tree_search.specs.Answer.{IsWithin};
 ghost use Rattle.dualoc_cli.specs.Reply.{status_of};
 ghost use Rattle.dualoc_cli.specs.Run.{HasTask};
-ghost use Rattle.dualoc_cli.specs.Center.{counted_by, HasCenterTask, cut_instance, showing_tree, center_plan, center_plan_text, radius_claim, center_end, IsCenterFound, HasCenterBegun};
+ghost use Rattle.dualoc_cli.specs.Center.{counted_by, cut_instance, showing_tree, center_plan, center_plan_text, radius_claim, center_end, IsCenterFound, HasCenter, HasCenterBegun};
 ghost use Rattle.dualoc_cli.specs.Due.{KeepsFiles, IsCause, IsRefusalStatus};
-ghost use Rattle.dualoc_cli.specs.Step.{asked_result, asked_center, InRuns};
+ghost use Rattle.dualoc_cli.specs.Step.{asked_result, asked_center, Heard, InRuns, IsCenterSought};
 
 use crate::reply::{CenterEnd, Outcome, Port, Refusal, Reply};
 use crate::words::{CenterTask, ResultFiles};
-use center_solve::{CenterAnswer, below_cost, center, radius_of, with_exact_count};
+use center_solve::{
+    CenterAnswer, Solver, Sought, Watch, below_cost, center, radius_of, with_exact_count,
+};
 use center_text::{RadiusClaim, center_text};
 use certificate_text::{CertificateRef, write_cert};
 use instance_store::{Instance, NoMemory};
@@ -28,18 +31,20 @@ use tree_search::{Tree, budget_in};
 
 /// What is answered where a center of an instance is to be sought, and what comes of it to be left in three
 /// files.
-pub fn find_center<H: Shelf>(
+pub fn find_center<S: Solver, H: Shelf, W: Watch>(
     alloc: Global,
     inst: &Instance,
     asks: CenterTask<'_>,
+    solver: &mut S,
     shelf: &mut H,
+    watch: &mut W,
 ) -> Result<Reply, NoMemory>
     requires { IfSome asks.count (λ n. n ≤ MAX_SITES) }
-    ensures cause { IfOk result (λ reply. InRuns (λ r. HasTask r (asked_center asks.entry) inst.now)
+    ensures cause { IfOk result (λ reply. InRuns (Heard (λ r. HasTask r (asked_center asks.entry) inst.now) (W.enoughs watch.old) (W.enoughs watch.new))
         (shelf_state (H.files shelf.old) (H.read_faults shelf.old) (H.write_faults shelf.old))
         (shelf_state (H.files shelf.new) (H.read_faults shelf.new) (H.write_faults shelf.new))
         (λ r. IsCause r reply)) }
-    ensures keeps { InRuns (λ r. HasTask r (asked_center asks.entry) inst.now)
+    ensures keeps { InRuns (Heard (λ r. HasTask r (asked_center asks.entry) inst.now) (W.enoughs watch.old) (W.enoughs watch.new))
         (shelf_state (H.files shelf.old) (H.read_faults shelf.old) (H.write_faults shelf.old))
         (shelf_state (H.files shelf.new) (H.read_faults shelf.new) (H.write_faults shelf.new))
         (λ r. KeepsFiles r (asked_center asks.entry)) }
@@ -47,12 +52,13 @@ pub fn find_center<H: Shelf>(
     ensures reads { NeverFalls (H.read_faults shelf.old) (H.read_faults shelf.new) }
     ensures writes { NeverFalls (H.write_faults shelf.old) (H.write_faults shelf.new) }
 {
-    let Some(budget) = budget_in(inst, asks.given) else {
+    let Some(budget) = budget_in(inst, asks.effort.given) else {
         return Ok(Reply::Refused(Refusal::LargeBudget));
     };
     let counted = counted_by(alloc, inst, asks.count)?;
-    let answer = found(alloc, &counted, budget)?;
-    leave(alloc, &counted, asks.into, asks.new, &answer, budget, shelf)
+    watch.begin(asks.effort.limits);
+    let sought = found(alloc, &counted, budget, solver, watch)?;
+    leave(alloc, &counted, asks.into, asks.new, &sought, shelf)
 }
 
 // The instance that is meant: the one whose plans open just so many sites, where a count is given.
@@ -67,14 +73,21 @@ fn counted_by(alloc: Global, inst: &Instance, count: Option<u32>) -> Result<Inst
 }
 
 // What a search for a center of the instance comes to.
-fn found(alloc: Global, inst: &Instance, budget: u32) -> Result<CenterAnswer, NoMemory>
+fn found<S: Solver, W: Watch>(
+    alloc: Global,
+    inst: &Instance,
+    budget: u32,
+    solver: &mut S,
+    watch: &mut W,
+) -> Result<Sought, NoMemory>
     requires { IsWithin inst.now budget }
-    ensures { IfOk result (IsCenterFound inst.now budget) }
+    ensures found { IfOk result (λ s. IsCenterFound inst.now budget s.budget s.answer) }
+    ensures left { IfOk result (λ s. IsBudgetLeft budget s.budget (W.enoughs watch.old) (W.enoughs watch.new)) }
 {
     // An instance is valid.
     let _sites = inst.sites();
-    let answer = center(alloc, inst, budget)?;
-    Ok(answer)
+    let sought = center(alloc, inst, budget, solver, watch)?;
+    Ok(sought)
 }
 
 // Leaves the plan, the certificate and the instance of which that speaks in their files, in this order.
@@ -83,16 +96,15 @@ fn leave<H: Shelf>(
     inst: &Instance,
     into: ResultFiles<'_>,
     new: &str,
-    answer: &CenterAnswer,
-    budget: u32,
+    sought: &Sought,
     shelf: &mut H,
 ) -> Result<Reply, NoMemory>
-    requires { IsCenterFound inst.now budget answer.now }
-    ensures cause { IfOk result (λ reply. InRuns (λ r. HasCenterTask r (asked_result into.entry) new.now inst.now budget)
+    requires { IsCenterSought inst.now sought.now.budget sought.now.answer }
+    ensures cause { IfOk result (λ reply. InRuns (λ r. HasCenter r (asked_result into.entry) new.now inst.now sought.now.budget sought.now.answer)
         (shelf_state (H.files shelf.old) (H.read_faults shelf.old) (H.write_faults shelf.old))
         (shelf_state (H.files shelf.new) (H.read_faults shelf.new) (H.write_faults shelf.new))
         (λ r. IsCause r reply)) }
-    ensures begun { InRuns (λ r. HasCenterTask r (asked_result into.entry) new.now inst.now budget)
+    ensures begun { InRuns (λ r. HasCenter r (asked_result into.entry) new.now inst.now sought.now.budget sought.now.answer)
         (shelf_state (H.files shelf.old) (H.read_faults shelf.old) (H.write_faults shelf.old))
         (shelf_state (H.files shelf.new) (H.read_faults shelf.new) (H.write_faults shelf.new))
         (λ r. HasCenterBegun r (asked_result into.entry) new.now) }
@@ -102,6 +114,7 @@ fn leave<H: Shelf>(
 {
     // An instance is valid.
     let _sites = inst.sites();
+    let answer = &sought.answer;
     let cut = cut_instance(alloc, inst, answer)?;
     let plan = plan_file(alloc, inst, answer)?;
     let text = instance_text::write(alloc, &cut)?;
@@ -121,7 +134,7 @@ fn leave<H: Shelf>(
         Err(PutFault::NoMemory) => return Err(NoMemory),
     }
     match put_whole(shelf, new, &text) {
-        Ok(()) => Ok(Reply::Reached(Outcome::Centered(end_of(inst, answer, budget)))),
+        Ok(()) => Ok(Reply::Reached(Outcome::Centered(end_of(inst, answer, sought.budget)))),
         Err(PutFault::Failed) => Ok(Reply::Failed(Port::Center)),
         Err(PutFault::NoMemory) => Err(NoMemory),
     }

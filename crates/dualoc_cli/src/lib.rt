@@ -1,4 +1,4 @@
-//! The commands of the program, over any shelf, input and output.
+//! The commands of the program, over any solver, shelf, input, output and watch.
 //!
 //! `run` finds the command in its words, does what it asks for, which ends in a `Reply`, and prints
 //! the reply's text. Its contract says so: `specs/Due.antt` is the page to read, and each command has a
@@ -27,7 +27,7 @@ mod words;
 
 pub use fixed_cost::MAX_INSTANCE_BYTES;
 pub use halt::Halt;
-pub use options::{Options, Takes};
+pub use options::{Effort, Options, Takes};
 pub use program::run;
 pub use reply::{Outcome, Port, Refusal, Reply};
 pub use status::Status;

@@ -5,33 +5,47 @@ ghost use Rattle.dualoc_cli.specs.Command.{command_of};
 ghost use Rattle.dualoc_cli.specs.Run.{Run};
 ghost use Rattle.dualoc_cli.specs.Session.{row_end};
 ghost use Rattle.dualoc_cli.specs.Due.{IsCause};
-ghost use Rattle.dualoc_cli.specs.Step.{asked_trial};
+ghost use Rattle.dualoc_cli.specs.Step.{asked_trial, Heard};
 
 use crate::reply::{Outcome, Reply};
 use crate::search::found;
-use crate::words::TrialNumbers;
+use crate::words::TrialTask;
 use instance_store::NoMemory;
+use solver_port::Solver;
 use std::alloc::Global;
 use tree_search::budget_in;
 use trial_instance::trial;
+use watch_port::Watch;
 
-/// What is answered where the instance of these numbers is to be solved.
-pub(crate) fn solve_trial(alloc: Global, numbers: TrialNumbers) -> Result<Reply, NoMemory>
-    requires { AreSizes numbers.sites numbers.custs }
-    ensures cause { IfOk result (λ reply. (r : Run) → command_of r.words ≡ Some (asked_trial numbers) → IsCause r reply) }
+/// What is answered where the instance of these numbers is to be solved within these limits.
+pub(crate) fn solve_trial<S: Solver, W: Watch>(
+    alloc: Global,
+    asks: TrialTask,
+    solver: &mut S,
+    watch: &mut W,
+) -> Result<Reply, NoMemory>
+    requires { AreSizes asks.sites asks.custs }
+    ensures cause { IfOk result (λ reply. (r : Run) → Heard (λ r. command_of r.words ≡ Some (asked_trial asks)) (W.enoughs watch.old) (W.enoughs watch.new) r → IsCause r reply) }
     ensures once { IfOk result (λ reply. row_end reply ≡ None) }
 {
-    let TrialNumbers { seed, sites, custs } = numbers;
+    let TrialTask {
+        seed,
+        sites,
+        custs,
+        limits,
+    } = asks;
     let inst = trial(alloc, seed, sites as usize, custs as usize)?;
     // The budget where none is given is never past the greatest.
     let budget = budget_in(&inst, None).unwrap();
-    let answer = found(alloc, &inst, budget)?;
+    watch.begin(limits);
+    let found = found(alloc, &inst, budget, solver, watch)?;
+    let answer = found.answer;
     // Any one site can serve all customers, so a search always comes to a plan.
     let plan = answer.plan().unwrap();
     Ok(Reply::Reached(Outcome::Tried {
         claim: answer.claim(&inst),
         nodes: answer.tree().nodes(),
-        budget,
+        budget: found.budget,
         opened: plan.site_count(),
     }))
 }

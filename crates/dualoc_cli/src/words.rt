@@ -4,9 +4,10 @@ ghost use Rattle.dualoc_cli.specs.Command.{command_of, solve_command, short_of, 
 ghost use Rattle.dualoc_cli.specs.Step.{asked, asked_job};
 
 use crate::limits::MAX_SEED;
-use crate::options::{Options, Takes, number, sites};
+use crate::options::{Effort, Options, Takes, limits, number, sites};
 use instance_forms::{FileForm, InstanceFile};
 use location_terms::{MAX_CUSTOMERS, MAX_LANES, MAX_SITES};
+use watch_port::Limits;
 
 /// The names of the files into which the result of a search is written.
 #[derive(Clone, Copy)]
@@ -16,23 +17,23 @@ pub struct ResultFiles<'a> {
 }
 
 /// A search for a center: where a count is given, of the plans that open just so many sites. Each of its
-/// probes has the budget, or one of its own where none is given. The result is written to two files, and
-/// the instance of which the certificate speaks to the new one.
+/// probes has the budget, or one of its own where none is given, and all together have the seconds. The result
+/// is written to two files, and the instance of which the certificate speaks to the new one.
 #[derive(Clone, Copy)]
 pub struct CenterTask<'a> {
     pub into: ResultFiles<'a>,
     pub new: &'a str,
-    pub given: Option<u32>,
+    pub effort: Effort,
     pub count: Option<u32>,
 }
 
-/// A curve: a search for each number of open sites from the first to the last, with the budget or one of
-/// its own where none is given.
+/// A curve: a search for each number of open sites from the first to the last, each with the budget, or one of
+/// its own where none is given, and with the limits.
 #[derive(Clone, Copy)]
 pub struct CurveTask {
     pub first: u32,
     pub last: u32,
-    pub given: Option<u32>,
+    pub effort: Effort,
 }
 
 /// What is to be done with the instance by a command that answers once.
@@ -40,9 +41,9 @@ pub struct CurveTask {
 pub enum Task<'a> {
     /// To solve it by a walk over all sets of sites, and to print the plan.
     SolveShort,
-    /// To solve it by a search within a budget of nodes, or one of its own where none is given, and to
-    /// write the result to these files.
-    SolveLong(ResultFiles<'a>, Option<u32>),
+    /// To solve it by a search within a budget of nodes, or one of its own where none is given, and within
+    /// limits, and to write the result to these files.
+    SolveLong(ResultFiles<'a>, Effort),
     /// To print the duals to which the ascent raises them where nothing is decided yet.
     ShowDuals,
     /// To check the certificate in the file of this name against it.
@@ -83,12 +84,13 @@ pub struct FileJob<'a> {
     pub job: Job<'a>,
 }
 
-/// What the instance of a trial is made of.
+/// A trial: what its instance is made of, and the limits of its search.
 #[derive(Clone, Copy)]
-pub struct TrialNumbers {
+pub struct TrialTask {
     pub seed: u32,
     pub sites: u32,
     pub custs: u32,
+    pub limits: Limits,
 }
 
 /// What the words of a command line ask for.
@@ -96,8 +98,8 @@ pub struct TrialNumbers {
 pub enum Command<'a> {
     /// A job on the instance in a file.
     OnFile(FileJob<'a>),
-    /// A search of the instance that these numbers stand for.
-    OnTrial(TrialNumbers),
+    /// A search of the instance that numbers stand for.
+    OnTrial(TrialTask),
 }
 
 impl<'a> Command<'a> {
@@ -142,10 +144,12 @@ fn solve(words: &[String]) -> Option<Command<'_>>
         Takes {
             budget: true,
             count: false,
+            limits: true,
         },
         options,
     )?;
-    let job = Job::Once(Task::SolveLong(ResultFiles { plan, certificate }, options.budget));
+    let into = ResultFiles { plan, certificate };
+    let job = Job::Once(Task::SolveLong(into, options.effort()));
     job_on(form.as_str(), file, job, options.capacity)
 }
 
@@ -182,6 +186,7 @@ fn duals(words: &[String]) -> Option<Command<'_>>
         Takes {
             budget: false,
             count: false,
+            limits: false,
         },
         options,
     )?;
@@ -209,6 +214,7 @@ fn check(words: &[String]) -> Option<Command<'_>>
         Takes {
             budget: false,
             count: false,
+            limits: false,
         },
         options,
     )?;
@@ -236,6 +242,7 @@ fn convert(words: &[String]) -> Option<Command<'_>>
         Takes {
             budget: false,
             count: false,
+            limits: false,
         },
         options,
     )?;
@@ -262,6 +269,7 @@ fn session(words: &[String]) -> Option<Command<'_>>
         Takes {
             budget: false,
             count: false,
+            limits: false,
         },
         options,
     )?;
@@ -273,13 +281,13 @@ fn session(words: &[String]) -> Option<Command<'_>>
 fn trial(words: &[String]) -> Option<Command<'static>>
     ensures { option_map asked result ≡ trial_command (map string_bytes words.now) }
 {
-    let [seed, sites, custs] = words else {
+    let [seed, sites, custs, words @ ..] = words else {
         return None;
     };
     let seed = number(seed.as_bytes())?;
     let sites = number(sites.as_bytes())?;
     let custs = number(custs.as_bytes())?;
-    trial_of(seed, sites, custs)
+    trial_of(seed, sites, custs, words)
 }
 
 // The words behind `range`.
@@ -349,6 +357,7 @@ fn range_on<'a>(
     let takes = Takes {
         budget: false,
         count: false,
+        limits: false,
     };
     let options = Options::of(takes, options)?;
     let job = Job::Once(Task::ShowRange(certificate, at));
@@ -371,12 +380,13 @@ fn center(words: &[String]) -> Option<Command<'_>>
     let takes = Takes {
         budget: true,
         count: true,
+        limits: true,
     };
     let options = Options::of(takes, options)?;
     let asks = CenterTask {
         into: ResultFiles { plan, certificate },
         new,
-        given: options.budget,
+        effort: options.effort(),
         count: options.count,
     };
     let job = Job::Once(Task::Center(asks));
@@ -412,24 +422,31 @@ fn curve_of<'a>(
     let takes = Takes {
         budget: true,
         count: false,
+        limits: true,
     };
     let options = Options::of(takes, options)?;
     let job = Job::Curve(CurveTask {
         first,
         last,
-        given: options.budget,
+        effort: options.effort(),
     });
     job_on(form, file, job, options.capacity)
 }
 
-// The trial of these numbers, if they are within the limits.
-fn trial_of(seed: u32, sites: u32, custs: u32) -> Option<Command<'static>>
-    ensures { option_map asked result ≡ trial_of seed sites custs }
+// The trial of these numbers, if they are small enough, within the limits that the words are.
+fn trial_of(seed: u32, sites: u32, custs: u32, words: &[String]) -> Option<Command<'static>>
+    ensures { option_map asked result ≡ trial_of seed sites custs (map string_bytes words.now) }
 {
     if !are_trial_numbers(seed, sites, custs) {
         return None;
     }
-    Some(Command::OnTrial(TrialNumbers { seed, sites, custs }))
+    let limits = limits(words)?;
+    Some(Command::OnTrial(TrialTask {
+        seed,
+        sites,
+        custs,
+        limits,
+    }))
 }
 
 // Whether a seed, a number of sites and a number of customers are within the limits.

@@ -1,15 +1,17 @@
 //! The desk: the words of the command line, over the host's files, standard input and standard output, and
 //! over the store that the third word names. Everything is printed to standard output, and the program ends
-//! with the status's number.
+//! with the status's number. Behind a leading `--tell` standard error gets how far a search is, and why an instance has
+//! no plan.
 #![tactic(auto)]
 
+use best_solver::BestSolver;
 use desk_cli::{DeskStatus, desk};
+use host_watch::{HostWatch, ProgramWords, program_words};
 use shelf_port::{RealShelf, RealSink, RealSource, write_whole};
 use sqlite_keeper::SqliteKeeper;
-use std::env::Env;
-use std::io::ErrorKind;
 use std::process::ExitCode;
-use std::{env, fs, io};
+use std::{fs, io};
+use told_solver::ToldSolver;
 
 // Where a standard stream was closed before the start, the next file that is opened takes its number, and what is
 // printed would go to that file. This one gives nothing and takes nothing.
@@ -22,19 +24,24 @@ fn main(rt: HostRuntime) -> ExitCode {
         fs::open(&rt, NO_STREAM).ok(),
     ];
     let mut out = RealSink::new(&rt);
-    let status = match words(&rt).and_then(|words| Ok((store(&rt, &words)?, words))) {
-        Ok((path, words)) => {
+    let status = match program_words(&rt).and_then(|given| Ok((store(&rt, &given.words)?, given))) {
+        Ok((path, ProgramWords { tells, words })) => {
             let mut shelf = RealShelf::new(&rt);
             let mut keeper = SqliteKeeper::new(rt, path);
             let mut input = RealSource::new(&rt);
-            desk(
+            let mut watch = HostWatch::new(&rt, tells);
+            let status = desk(
                 rt.alloc(),
                 &words,
+                ToldSolver::new(&rt, tells, BestSolver),
                 &mut shelf,
                 &mut keeper,
                 &mut input,
                 &mut out,
-            )
+                &mut watch,
+            );
+            watch.end();
+            status
         }
         Err(_) => {
             // A line that can't be written leaves nothing more to say.
@@ -43,16 +50,6 @@ fn main(rt: HostRuntime) -> ExitCode {
         }
     };
     ExitCode::from(status.number())
-}
-
-// The words behind the program's name: none where one of them is no text. It fails only where
-// memory runs out.
-fn words<R: Env + AllocGlobal>(rt: &R) -> io::Result<Vec<String>> {
-    match env::args(rt) {
-        Ok(words) => Ok(words.skip(1).collect(rt.alloc())?),
-        Err(e) if e.kind() == ErrorKind::OutOfMemory => Err(e),
-        Err(_) => Ok(Vec::new(rt.alloc())),
-    }
 }
 
 // The path of the store: the third word, and an empty one where there are fewer. It fails only where memory

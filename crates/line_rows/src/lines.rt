@@ -1,8 +1,8 @@
 use instance_store::{LaneRow, SiteStatus};
 use location_terms::Claim;
 use session_lines::{
-    AnswerForm, Came, CustId, Edit, EditFault, NoMemory, Request, SessionFault, SiteId, came_text,
-    ok_text, refusal_text, request_of, solve_text,
+    AnswerForm, Came, CustId, Edit, EditFault, Limits, NoMemory, Request, SessionFault, SiteId,
+    came_text, ok_text, refusal_text, request_of, solve_text,
 };
 use std::alloc::Global;
 
@@ -126,6 +126,13 @@ fn adds_cust(alloc: Global, line: &str, micro: u64, row: &[Option<u64>]) -> bool
 fn solves(alloc: Global, line: &[u8], given: Option<u32>) -> bool {
     match request_of(alloc, line) {
         Ok(Some(Request::Solve(budget))) => budget == given,
+        _ => false,
+    }
+}
+
+fn limits(alloc: Global, line: &str, seconds: Option<u32>, gap: Option<u32>) -> bool {
+    match request_of(alloc, line.as_bytes()) {
+        Ok(Some(Request::Limit(limits))) => limits == Limits { seconds, gap },
         _ => false,
     }
 }
@@ -354,6 +361,38 @@ fn reads_lines_that_change_nothing(rt: HostRuntime) {
                 "cert",
                 "cert a b",
                 "#",
+            ]
+        )
+    );
+}
+
+#[test]
+fn reads_limits(rt: HostRuntime) {
+    let alloc = rt.alloc();
+    assert!(rt;
+        limits(alloc, "limit", None, None)
+            && limits(alloc, "limit seconds=30", Some(30), None)
+            && limits(alloc, "limit gap=0.1 ", None, Some(1_000))
+            && limits(
+                alloc,
+                "\tlimit gap=2  seconds=86400\r",
+                Some(86_400),
+                Some(20_000)
+            )
+    );
+    assert!(rt;
+        are_refused(
+            alloc,
+            &[
+                "limit 30",
+                "limit seconds",
+                "limit seconds=0",
+                "limit seconds=1 seconds=1",
+                "limit gap=1 seconds=1 gap=1",
+                "limit gap=100",
+                "limit budget=1",
+                "limit none",
+                "limits",
             ]
         )
     );

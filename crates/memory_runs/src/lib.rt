@@ -17,5 +17,5 @@ pub use files::{
 };
 pub use outcome::Outcome;
 pub use row::Row;
-pub use run::{ran, shelf_of, sink_of, source_of, words_of};
+pub use run::{ran, ran_under, shelf_of, sink_of, source_of, words_of};
 pub use writing::Writing;

@@ -5,10 +5,12 @@ use crate::calls::Calls;
 use crate::outcome::Outcome;
 use dualoc_cli::run;
 use shelf_port::{MemShelf, MemSink, MemSource};
+use solver_port::PlainSolver;
 use std::alloc::{AllocError, Global};
+use watch_port::{NoWatch, Watch};
 
-/// What words, with one space between two, come to over these files, by name and text, and over this input. It
-/// fails where memory runs out before the run begins.
+/// What words, with one space between two, come to over these files, by name and text, and over this input, where
+/// the plain solver solves. It fails where memory runs out before the run begins.
 pub fn ran(
     alloc: Global,
     words: &str,
@@ -18,11 +20,33 @@ pub fn ran(
 ) -> Result<Outcome, AllocError>
     requires { 0 < calls.width }
 {
+    ran_under(alloc, words, files, input, calls, &mut NoWatch)
+}
+
+/// The same where a watch may end each search.
+pub fn ran_under<W: Watch>(
+    alloc: Global,
+    words: &str,
+    files: &[(&str, &str)],
+    input: &[u8],
+    calls: Calls,
+    watch: &mut W,
+) -> Result<Outcome, AllocError>
+    requires { 0 < calls.width }
+{
     let names = words_of(alloc, words)?;
     let mut shelf = shelf_of(alloc, files, calls)?;
     let mut source = source_of(alloc, input, calls)?;
     let mut out = sink_of(alloc, calls)?;
-    let status = run(alloc, &names, &mut shelf, &mut source, &mut out);
+    let status = run(
+        alloc,
+        &names,
+        PlainSolver,
+        &mut shelf,
+        &mut source,
+        &mut out,
+        watch,
+    );
     Ok(Outcome { status, shelf, out })
 }
 

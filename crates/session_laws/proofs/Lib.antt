@@ -6,3 +6,4 @@ mod Decided
 mod States
 mod GoingOn
 mod Steps
+mod Whole

@@ -87,7 +87,7 @@ module _ (state : SessionState) (e : Edit) where
       cond_both (is_some (option_and_then (kept_solve (with_edit state e)) state.present)) state.present state.present (λ o. state.present ≡ o) (λ _. refl) (λ _. refl)
 
   left : unanswered state ≡ without_edit (with_edit state e) held
-  left = λ i. let s : SessionState = record { base = state.base; edits = edits_left i; solves = state.solves; present = present_left i; standing = None } in s
+  left = λ i. let s : SessionState = record { base = state.base; edits = edits_left i; solves = state.solves; present = present_left i; standing = None; in_force = state.in_force } in s
 
   pub undone : told_undo (with_edit state e) (last_or None (with_edit state e).edits) ≡ Ok (ok_text, unanswered state)
   undone = ap (told_undo (with_edit state e)) last_held ∙ ap (λ (s : SessionState). Ok (ok_text, s)) (sym left)

@@ -13,7 +13,7 @@ use Rattle.tree_search.specs.Answer.{claim_in, plan_in, tree_in}
 use Rattle.tree_search.specs.Budget.{max_budget, budget_in}
 use Rattle.session_lines.specs.declared.answer_form.AnswerForm.{AnswerForm}
 use Rattle.session_lines.specs.declared.fault.SessionFault.TheVariants as fault
-use Rattle.session_lines.specs.Lines.{SessionLine, Blank, TakeBack, Quit, Show, Change, Solve, Save, Cert, session_line}
+use Rattle.session_lines.specs.Lines.{SessionLine, Blank, TakeBack, Quit, Show, Change, Solve, Limit, Save, Cert, session_line}
 use Rattle.whatif_session.specs.declared.limits.TheConstants.{MAX_EDITS}
 use Rattle.whatif_session.specs.State.{SessionState, standing_answer}
 use Rattle.whatif_session.specs.Step.{Moment, Told, IsReplied, told_edit, told_change, told_undo, ShowsAnswer, WritesAnswer, Solves, Does, SessionStep}
@@ -43,7 +43,7 @@ module _ (I : Instance) (old : Moment) (reply : List ℕ) (new : Moment) (counte
   after_solve budget true told = left_is old.session told.left counted
   after_solve budget false solve =
       let a = solve.answer in
-      left_is _ solve.replies.left (solved_counted old.session (claim_in I a) (tree_in a) (plan_in a) counted)
+      left_is _ solve.left (solved_counted old.session (claim_in I a) (tree_in a) (plan_in a) counted)
 
   after_answer : (form : AnswerForm) (cert : Option Certificate) → ShowsAnswer I form cert old reply new → AreCounted new.session
   after_answer form None told = left_is old.session told.left counted
@@ -60,6 +60,7 @@ module _ (I : Instance) (old : Moment) (reply : List ℕ) (new : Moment) (counte
   after (Some (Change e)) does = after_change e does
   after (Some TakeBack) does = after_undo (last_or None old.session.edits) does
   after (Some (Solve given)) does = after_solve (budget_in I given) (nat_lt (max_budget I) (budget_in I given)) does
+  after (Some (Limit limits)) does = left_is _ does.left counted
   after (Some (Show form)) does = after_answer form (standing_answer old.session) does
   after (Some (Save name)) does = left_is old.session does.0 counted
   after (Some (Cert name)) does = after_cert name (standing_answer old.session) does

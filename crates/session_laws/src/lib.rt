@@ -7,5 +7,5 @@ mod solves;
 mod undo;
 
 pub use ends::{closed_trees_decide, solves_end};
-pub use solves::{serials_rise, solves_go_on};
+pub use solves::{serials_rise, solves_go_on, unheard_solves_are_whole};
 pub use undo::undo_gives_back;

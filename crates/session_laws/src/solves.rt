@@ -10,9 +10,9 @@ ghost use Rattle.leaf_repair.specs.CarriedTree.{is_too_large};
 ghost use Rattle.plan_search.specs.InBox.{IsNoWorse};
 ghost use Rattle.tree_search.specs.declared.answer.Answer.TheVariants.{Bracket};
 ghost use Rattle.whatif_session.specs.State.{SessionState, begun_session, with_edit, with_solve};
-ghost use Rattle.whatif_session.specs.Step.{IsSolvedBy, Moment, SessionStep, solved, told_undo};
+ghost use Rattle.whatif_session.specs.Step.{IsSolvedBy, Moment, SessionStep, Solves, solved, told_undo};
 ghost use Rattle.whatif_session.specs.Run.{StepsThrough};
-ghost use Rattle.session_laws.specs.Session.{AreCounted};
+ghost use Rattle.session_laws.specs.Session.{AreCounted, SolvesWholly};
 
 /// A session's last solve has the greatest serial number: that is so at its start, and stays so by each
 /// edit, undo and solve, and so by each line of a run.
@@ -39,4 +39,10 @@ pub fn solves_go_on()
         IsSolvedBy state I first (Bracket low plan tree made) →
         IsSolvedBy (solved state I (Bracket low plan tree made)) I second (Bracket later_low later_plan later_tree later_made) →
         (low ≤ later_low) × IsNoWorse I later_plan plan }
+{}
+
+/// A solve in which the watch says nothing has the whole budget that its line gives, and prints that.
+pub fn unheard_solves_are_whole()
+    ensures { (I : Instance) (given : ℕ) (old new : Moment) (reply : List ℕ) →
+        Solves I given old reply new → new.heard ≡ old.heard → SolvesWholly I given old reply new }
 {}

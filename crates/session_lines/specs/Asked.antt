@@ -1,7 +1,7 @@
 -- What a request in memory asks for, as a line of a session.
 use Rattle.session_lines.specs.declared.request.Request.{Request}
 use Rattle.session_lines.specs.declared.request.Request.TheVariants as in_memory
-use Rattle.session_lines.specs.Lines.{SessionLine, Blank, TakeBack, Quit, Show, Change, Solve, Save, Cert}
+use Rattle.session_lines.specs.Lines.{SessionLine, Blank, TakeBack, Quit, Show, Change, Solve, Limit, Save, Cert}
 
 abbrev pub line_of_request : Request → SessionLine
 line_of_request in_memory.Blank = Blank
@@ -10,5 +10,6 @@ line_of_request in_memory.Quit = Quit
 line_of_request (in_memory.Show form) = Show form
 line_of_request (in_memory.Change edit) = Change edit
 line_of_request (in_memory.Solve given) = Solve given
+line_of_request (in_memory.Limit limits) = Limit limits
 line_of_request (in_memory.Save name) = Save name.now
 line_of_request (in_memory.Cert name) = Cert name.now

@@ -7,19 +7,22 @@ use Rattle.location_terms.specs.declared.status.SiteStatus.{SiteStatus}
 use Rattle.location_terms.specs.declared.status.SiteStatus.TheVariants.{Free, MustOpen, MustClose}
 use Rattle.number_words.specs.Line.{words_of_line}
 use Rattle.fixed_cost.specs.Amount.{amount_of, count_of}
+use Rattle.watch_port.specs.declared.limits.Limits.{Limits}
+use Rattle.limit_words.specs.Limits.{limits_given}
 use Rattle.instance_edits.specs.Edits.{HasAmounts}
 use Rattle.instance_edits.specs.declared.edit.Edit.{Edit}
 use Rattle.instance_edits.specs.declared.edit.Edit.TheVariants.{SetFixed, SetLane, SetDemand, SetCap, SetCount, AddSite, AddCust, DropSite, DropCust, SetStatus}
 use Rattle.session_lines.specs.declared.answer_form.AnswerForm.{AnswerForm}
 use Rattle.session_lines.specs.declared.answer_form.AnswerForm.TheVariants as form
 
--- what a line asks for: nothing, where it has no words; an edit, or to take the last one back; to solve the instance, with a budget or the default one; to show the standing
--- answer in one of its forms; to write the instance or that answer's certificate; or to end
+-- what a line asks for: nothing, where it has no words; an edit, or to take the last one back; to solve the instance, with a budget or the default one; limits for the solves
+-- behind it; to show the standing answer in one of its forms; to write the instance or that answer's certificate; or to end
 pub data SessionLine : Type 0 where
   Blank TakeBack Quit : SessionLine
   Show : AnswerForm → SessionLine
   Change : Edit → SessionLine
   Solve : (given : Option ℕ) → SessionLine
+  Limit : Limits → SessionLine
   Save Cert : (name : List ℕ) → SessionLine
 
 -- The words that stand for numbers, statuses and names.
@@ -112,6 +115,10 @@ solve_asked [] = Some (Solve None)
 solve_asked (n ∷ []) = option_map (λ budget. Solve (Some budget)) (count_word n)
 solve_asked _ = None
 
+-- `limit`, and the limits in any order; none where there are no words
+abbrev pub limit_asked : List (List ℕ) → Option SessionLine
+limit_asked words = option_map Limit (limits_given words)
+
 -- `save NAME`
 abbrev pub save_asked : List (List ℕ) → Option SessionLine
 save_asked (w ∷ []) = option_map Save (name_word w)
@@ -129,7 +136,7 @@ abbrev pub session_rows : List (List ℕ × (List (List ℕ) → Option SessionL
 session_rows =
     (codes "fixed", fixed_asked) ∷ (codes "lane", lane_asked) ∷ (codes "demand", demand_asked) ∷ (codes "cap", cap_asked) ∷ (codes "count", count_asked)
     ∷ (codes "addsite", addsite_asked) ∷ (codes "addcust", addcust_asked) ∷ (codes "dropsite", dropsite_asked) ∷ (codes "dropcust", dropcust_asked) ∷ (codes "status", status_asked)
-    ∷ (codes "undo", alone TakeBack) ∷ (codes "solve", solve_asked) ∷ (codes "answer", alone (Show form.Plan)) ∷ (codes "table", alone (Show form.Table)) ∷ (codes "json", alone (Show form.Json))
+    ∷ (codes "undo", alone TakeBack) ∷ (codes "solve", solve_asked) ∷ (codes "limit", limit_asked) ∷ (codes "answer", alone (Show form.Plan)) ∷ (codes "table", alone (Show form.Table)) ∷ (codes "json", alone (Show form.Json))
     ∷ (codes "save", save_asked) ∷ (codes "cert", cert_asked) ∷ (codes "quit", alone Quit) ∷ []
 
 -- what words ask for, where they match a row

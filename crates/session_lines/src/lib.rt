@@ -15,3 +15,4 @@ pub use instance_edits::{Edit, EditFault};
 pub use instance_store::{CustId, NoMemory, SiteId};
 pub use replies::{Came, came_text, ok_text, refusal_text, solve_text};
 pub use request::{Request, read_edit, request_of};
+pub use watch_port::Limits;

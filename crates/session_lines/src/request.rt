@@ -1,7 +1,7 @@
 //! What a line of a session asks for.
 ghost use Rattle.std.specs.Prelude.{◌≡◌, ◌∷◌, IfOk, IfSome, bytes_eq, option_map};
 ghost use Rattle.session_lines.specs.Asked.{line_of_request};
-ghost use Rattle.session_lines.specs.Lines.{HasLineAmounts, alone, solve_asked, save_asked, cert_asked, line_edit, line_of_words, session_line};
+ghost use Rattle.session_lines.specs.Lines.{HasLineAmounts, alone, solve_asked, limit_asked, save_asked, cert_asked, line_edit, line_of_words, session_line};
 ghost use Rattle.instance_edits.specs.Edits.{HasAmounts};
 
 use crate::answer_form::AnswerForm;
@@ -11,8 +11,10 @@ use crate::changes::{
 use crate::word_values::{count, name};
 use instance_edits::Edit;
 use instance_store::NoMemory;
+use limit_words::limits_given;
 use number_words::LineWords;
 use std::alloc::Global;
+use watch_port::Limits;
 
 /// What a line asks for. Amounts are in millionths.
 #[derive(Debug, Drop)]
@@ -29,6 +31,8 @@ pub enum Request<'a> {
     Change(Edit),
     /// To solve it, with this budget of nodes or the default one.
     Solve(Option<u32>),
+    /// To solve it within these limits from now on.
+    Limit(Limits),
     /// To write the instance to the file of this name.
     Save(&'a str),
     /// To write the certificate of the standing answer to it.
@@ -82,6 +86,7 @@ fn behind<'a>(
         verb if is_word(verb, b"status") => Ok(site_status(words)),
         verb if is_word(verb, b"undo") => Ok(alone(Request::TakeBack, words)),
         verb if is_word(verb, b"solve") => Ok(solve(words)),
+        verb if is_word(verb, b"limit") => Ok(limit(words)),
         verb if is_word(verb, b"answer") => Ok(alone(Request::Show(AnswerForm::Plan), words)),
         verb if is_word(verb, b"table") => Ok(alone(Request::Show(AnswerForm::Table), words)),
         verb if is_word(verb, b"json") => Ok(alone(Request::Show(AnswerForm::Json), words)),
@@ -121,6 +126,14 @@ fn solve(mut words: LineWords<'_>) -> Option<Request<'_>>
         return None;
     }
     Some(Request::Solve(Some(count(budget)?)))
+}
+
+// `limit [seconds=S] [gap=G]`
+fn limit(words: LineWords<'_>) -> Option<Request<'_>>
+    ensures asked { option_map line_of_request result ≡ limit_asked words.entry }
+    ensures amounts { IfSome result (λ x. HasLineAmounts (line_of_request x)) }
+{
+    Some(Request::Limit(limits_given(words)?))
 }
 
 // `save NAME`

@@ -7,7 +7,7 @@ use lane_order::LaneOrder;
 use search_strategy::{Kept, SearchStrategy};
 use std::alloc::Global;
 use std::test::Fail;
-use tree_search::{Answer, Tree, grow, max_nodes};
+use tree_search::{Answer, NoWatch, Tree, grow, max_nodes};
 
 // The cost and the nodes of a search, with what it keeps.
 fn searched(
@@ -53,8 +53,18 @@ fn found(
 {
     let tree = Tree::root(alloc, inst)?;
     let budget = max_nodes(inst);
-    let answer = grow(alloc, inst, order, strategy, tree, &[false], None, budget)?;
-    Ok(optimum(answer))
+    let searched = grow(
+        alloc,
+        inst,
+        order,
+        strategy,
+        tree,
+        &[false],
+        None,
+        budget,
+        &mut NoWatch,
+    )?;
+    Ok(optimum(searched.answer))
 }
 
 fn optimum(answer: Answer) -> (u64, u32) {

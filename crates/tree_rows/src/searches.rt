@@ -1,4 +1,5 @@
-//! Searches within a budget, by the plain strategy and by one that proposes duals for whole knapsacks.
+//! Searches within a budget and under a watch, by the plain strategy and by one that proposes duals for whole
+//! knapsacks.
 ghost use Rattle.strategy_port.specs.Scene.{IsScene};
 ghost use Rattle.tree_search.specs.Answer.{IsWithin};
 
@@ -11,7 +12,8 @@ use plan_meaning::Plan;
 use std::alloc::Global;
 use std::test::Fail;
 use strategy_port::{Move, Scene, Strategy, Wish};
-use tree_search::{Answer, PlainStrategy, Tree, grow, max_nodes};
+use tree_search::{Answer, NoWatch, PlainStrategy, Searched, Tree, Watch, grow, max_nodes};
+use watch_port::KthWatch;
 
 // Proposes the one plan of two warehouses, each of which serves the other customer, and then these duals for whole
 // knapsacks, in each box.
@@ -67,17 +69,36 @@ fn crossed(alloc: Global) -> Result<Move, NoMemory> {
 }
 
 // What a search from one leaf of zeros answers.
-fn searched<S: Strategy>(
+fn searched<S: Strategy, W: Watch>(
     alloc: Global,
     inst: &Instance,
     strategy: &mut S,
     budget: u32,
-) -> Result<Answer, NoMemory>
+    watch: &mut W,
+) -> Result<Searched, NoMemory>
     requires { IsWithin inst.now budget }
 {
     let order = LaneOrder::of(alloc, inst)?;
     let tree = Tree::root(alloc, inst)?;
-    grow(alloc, inst, &order, strategy, tree, &[false], None, budget)
+    grow(
+        alloc,
+        inst,
+        &order,
+        strategy,
+        tree,
+        &[false],
+        None,
+        budget,
+        watch,
+    )
+}
+
+// What a plain search with this budget answers.
+fn plain(alloc: Global, inst: &Instance, budget: u32) -> Result<Answer, NoMemory>
+    requires { IsWithin inst.now budget }
+{
+    let found = searched(alloc, inst, &mut PlainStrategy, budget, &mut NoWatch)?;
+    Ok(found.answer)
 }
 
 // Whether the search came to an end, and the least cost that it leaves: 0 where no plan is feasible.
@@ -101,7 +122,7 @@ fn claims(
     if budget > max_nodes(inst) {
         return Ok(false);
     }
-    let (ended, cost) = claimed(searched(alloc, inst, &mut PlainStrategy, budget)?);
+    let (ended, cost) = claimed(plain(alloc, inst, budget)?);
     Ok(ended == ends && least <= cost && cost <= most)
 }
 
@@ -135,7 +156,8 @@ fn closes_whole(
         return Ok(false);
     }
     let mut strategy = OneWhole { values, turn: 0 };
-    match searched(alloc, inst, &mut strategy, 1)? {
+    let found = searched(alloc, inst, &mut strategy, 1, &mut NoWatch)?;
+    match found.answer {
         Answer::Optimal {
             cost: found,
             tree,
@@ -158,5 +180,51 @@ fn whole_knapsacks_close_a_leaf(rt: HostRuntime) -> Result<(), Fail> {
     let two = warehouses(rt.alloc())?;
     let values = [7_500_250_000_000, 7_503_000_000_000];
     assert!(rt; closes_whole(rt.alloc(), &two, values, 7_504_750_000)?);
+    Ok(())
+}
+
+// Whether a plain search that a watch ends behind so many questions answers what a plain one does with the budget that
+// is left of this one.
+fn leaves_its_budget(
+    alloc: Global,
+    inst: &Instance,
+    budget: u32,
+    quiet: u64,
+) -> Result<bool, NoMemory> {
+    if budget > max_nodes(inst) {
+        return Ok(false);
+    }
+    let mut watch = KthWatch::after(quiet);
+    let found = searched(alloc, inst, &mut PlainStrategy, budget, &mut watch)?;
+    let left = found.budget;
+    if left > max_nodes(inst) {
+        return Ok(false);
+    }
+    let (ended, cost) = claimed(found.answer);
+    let (ends, least) = claimed(plain(alloc, inst, left)?);
+    Ok(left <= budget && ended == ends && cost == least)
+}
+
+// The same behind any number of questions up to this one.
+fn leaves_its_budgets(
+    alloc: Global,
+    inst: &Instance,
+    budget: u32,
+    most: u64,
+) -> Result<bool, NoMemory> {
+    for quiet in 0..most {
+        if !leaves_its_budget(alloc, inst, budget, quiet)? {
+            return Ok(false);
+        }
+    }
+    Ok(true)
+}
+
+#[test]
+fn a_watch_leaves_a_budget(rt: HostRuntime) -> Result<(), Fail> {
+    let ring = ring(rt.alloc())?;
+    assert!(rt; leaves_its_budgets(rt.alloc(), &ring, 15, 17)?);
+    let two = warehouses(rt.alloc())?;
+    assert!(rt; leaves_its_budgets(rt.alloc(), &two, 127, 20)?);
     Ok(())
 }

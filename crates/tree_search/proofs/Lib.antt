@@ -16,6 +16,7 @@ mod Reseated
 mod Settled
 mod SettledPlans
 mod Shown
+mod Spends
 mod Going
 mod TightPlans
 mod Verdicts

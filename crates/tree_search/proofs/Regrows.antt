@@ -1,5 +1,5 @@
 -- What each leaf of a tree comes to in a search, and the whole tree.
-use Rattle.std.proofs.Common.{◌≡◌, ℕ, ◌+◌, ◌*◌, ◌-◌, ◌^◌, ◌<◌, ◌≤◌, zero, suc, refl, sym, ap, subst, ◌∙◌, inl, inr, arith, List, [], ◌∷◌, ◌++◌, length, length-append, get_or, Bool, true, false, Option, Some, None, pos, negsuc, ◌-ℤ◌, ◌*ℤ◌, ◌≤ℤ◌, ◌<ℤ◌, ℤ}
+use Rattle.std.proofs.Common.{◌≡◌, ℕ, ◌+◌, ◌*◌, ◌^◌, ◌<◌, ◌≤◌, zero, suc, refl, sym, ap, subst, ◌∙◌, inl, inr, arith, List, [], ◌∷◌, ◌++◌, length, length-append, get_or, Bool, true, false, Option, Some, None, pos, negsuc, ◌-ℤ◌, ◌*ℤ◌, ◌≤ℤ◌, ◌<ℤ◌, ℤ}
 use Rattle.std.specs.Prelude.{◌⊎◌, ◌↔◌, All, IfSome, IsTrue, IsSome, IsSomeAnd, slice_get}
 use Rattle.std.proofs.lemmas.Bool.{both_ways}
 use Rattle.std.proofs.lemmas.Int.{ints}
@@ -29,13 +29,14 @@ use Rattle.tree_search.specs.Grown.{IsGrownBelow, IsGrownFrom, PlansWereSought}
 use Rattle.tree_search.specs.Answer.{AreHeld, IsWithin, IsAnswerTo, cost_in, plan_in}
 use Rattle.tree_search.specs.declared.answer.Answer.{Answer}
 use Rattle.branch_tree.specs.declared.limits.TheConstants.{MAX_TREE_NUMBERS}
+use Rattle.tree_search.specs.Spending.{Spent}
 use Rattle.tree_search.specs.Working.{IsSoughtAt, IsDoneLeaf, IsGrownPart}
 use Rattle.tree_search.specs.Regrown.{IsKnownLeaf, HasEnded, Answers, IsRenewed, AreRenewedParts, IsRegrowing, IsGrownAt, IsRegrownFrom}
 use Rattle.tree_search.proofs.Closer.{closes_no_worse, closes_still, sought_still}
 use Rattle.tree_search.proofs.Comparing.{times_le}
 use Rattle.tree_search.proofs.Offered.{closed_sought}
 use Rattle.tree_search.proofs.Grew.{known_more, first_known, second_known}
-use Rattle.tree_search.proofs.LeafPlaces.{all_at}
+use Rattle.tree_search.proofs.LeafPlaces.{all_at, some_node}
 use Rattle.tree_search.proofs.MadeLeaf.{ray_bound, above_scaled, some_target, by_prices, of_made, made_leaf_fits, made_ray, made_still}
 use Rattle.tree_search.proofs.TightPlans.{tight_plans}
 use Rattle.tree_search.proofs.ZeroBound.{plain_scale_fits, bound_at_zero}
@@ -50,8 +51,8 @@ module _ (I : Instance) where
   is_some_still None (Some P) h some = absurd h
   is_some_still (Some Q) (Some P) h some = refl
 
-  pub ended_still : (plan' plan : Option Plan) (budget made' made : ℕ) → IsNoWorse I plan' plan → made ≤ made' → (path : Path) (d : Duals) → HasEnded I plan budget made path d → HasEnded I plan' budget made' path d
-  ended_still plan' plan budget made' made later more path d ended = record {
+  pub ended_still : (plan' plan : Option Plan) (budget' budget made' made : ℕ) → IsNoWorse I plan' plan → budget' ≤ budget → made ≤ made' → (path : Path) (d : Duals) → HasEnded I plan budget made path d → HasEnded I plan' budget' made' path d
+  ended_still plan' plan budget' budget made' made later less more path d ended = record {
     fit = ended.fit;
     ray = ended.ray;
     above = ended.above;
@@ -59,7 +60,7 @@ module _ (I : Instance) where
     sought = λ scaled. sought_still I path plan' plan later d (ended.sought scaled);
     ends = elim ended.ends [
       | inl closes ↦ inl (closes_still I path plan' plan later d closes)
-      | inr spent ↦ inr (omega (arith, spent, more))
+      | inr spent ↦ inr (omega (arith, spent, less, more))
     ];
   }
 
@@ -69,13 +70,13 @@ module _ (I : Instance) where
       built_weaker (IsMadeLeaf I (cost_in I plan) base old) (IsMadeLeaf I (cost_in I plan') base old) (IsDueSplit I (cost_in I handed)) (IsDueSplit I (cost_in I handed))
       (λ path d made. made_still I path d base old plan' plan later made) (λ path split due. due) t base
 
-  pub renewed_still : (handed plan' plan : Option Plan) (budget made' made : ℕ) → IsNoWorse I plan' plan → made ≤ made' → (path : Path) (d : Duals) (new : Node) → IsRenewed I handed plan budget made path d new → IsRenewed I handed plan' budget made' path d new
-  renewed_still handed plan' plan budget made' made later more path d new renewed = record {
+  pub renewed_still : (handed plan' plan : Option Plan) (budget' budget made' made : ℕ) → IsNoWorse I plan' plan → budget' ≤ budget → made ≤ made' → (path : Path) (d : Duals) (new : Node) → IsRenewed I handed plan budget made path d new → IsRenewed I handed plan' budget' made' path d new
+  renewed_still handed plan' plan budget' budget made' made later less more path d new renewed = record {
     grown = elim renewed.grown [
       | inl stays ↦ inl stays
       | inr worked ↦ inr (worked.0, made_later handed plan' plan later path d new worked.1)
     ];
-    ended = All-weaker (λ l. HasEnded I plan budget made l.0 l.1) (λ l. HasEnded I plan' budget made' l.0 l.1) (λ l e. ended_still plan' plan budget made' made later more l.0 l.1 e) (leaves_below path new) renewed.ended;
+    ended = All-weaker (λ l. HasEnded I plan budget made l.0 l.1) (λ l. HasEnded I plan' budget' made' l.0 l.1) (λ l e. ended_still plan' plan budget' budget made' made later less more l.0 l.1 e) (leaves_below path new) renewed.ended;
   }
 
   -- A leaf that is held.
@@ -93,7 +94,7 @@ module _ (I : Instance) where
       } in
       record {
         grown = inl (closes, refl);
-        ended = All-cons (λ l. HasEnded I plan budget made l.0 l.1) (path, d) [] (ended_still plan handed budget made made later (omega arith) path d ended) (All-nil (λ l. HasEnded I plan budget made l.0 l.1));
+        ended = All-cons (λ l. HasEnded I plan budget made l.0 l.1) (path, d) [] (ended_still plan handed budget budget made made later (omega arith) (omega arith) path d ended) (All-nil (λ l. HasEnded I plan budget made l.0 l.1));
       }
 
   -- A leaf in whose place a tree grew.
@@ -110,8 +111,8 @@ module _ (I : Instance) where
         let scale : made.ascent.q ≡ plain_scale I = (plain_keeps I path (plain_scale I) (plain_scale_fits I).0 (plain_scale_fits I).1 valid made.ascent made.is_plain).scale in
         from_zero (bound_of I path d) (bound_of I path made.ascent) d.q made.ascent.q made.tame.scaled (omega (arith, scale, (plain_scale_fits I).0)) (bound_at_zero I path valid made.ascent made.is_plain) made.plain
 
-    done_ended : (base : Path) (old : Duals) (plan : Option Plan) (limit nodes budget made : ℕ) → budget + nodes ≤ limit + made → (path : Path) (d : Duals) → IsDoneLeaf I base old plan limit nodes path d → HasEnded I plan budget made path d
-    done_ended base old plan limit nodes budget made spends path d done = record {
+    done_ended : (base : Path) (old : Duals) (plan : Option Plan) (s : Spent) (path : Path) (d : Duals) → IsDoneLeaf I base old plan s path d → HasEnded I plan s.budget s.made path d
+    done_ended base old plan s path d done = record {
       fit = made_leaf_fits I path d base old (cost_in I plan) done.made;
       ray = made_ray I path d base old (cost_in I plan) done.made;
       above = λ scaled. elim (of_made I path d base old (cost_in I plan) done.made) [
@@ -126,10 +127,7 @@ module _ (I : Instance) where
         | inr whole ↦ some_target I (leaf_bound I path d) d.q plan scaled whole.1.closed
       ];
       sought = done.sought;
-      ends = elim done.ends [
-        | inl closes ↦ inl closes
-        | inr spent ↦ inr (omega (arith, spends, spent))
-      ];
+      ends = done.ends;
     }
 
     -- a box that is open against a target is open against any that is no lower
@@ -147,18 +145,18 @@ module _ (I : Instance) where
         open_to None (Some P) later bound q fails = absurd later
         open_to (Some Q) (Some P) later bound q fails = λ closes. fails (closes_no_worse I bound q (Some Q) (Some P) later closes)
 
-    built_made : (base : Path) (old : Duals) (plan handed plan' : Option Plan) (limit nodes : ℕ) → IsNoWorse I plan handed → (t : Node) (path : Path) → IsBuiltOf (IsDoneLeaf I base old plan' limit nodes) (IsDueSplit I (cost_in I plan)) path t → IsMade I (cost_in I handed) (cost_in I plan') base old path t
-    built_made base old plan handed plan' limit nodes later =
-        built_weaker (IsDoneLeaf I base old plan' limit nodes) (IsMadeLeaf I (cost_in I plan') base old) (IsDueSplit I (cost_in I plan)) (IsDueSplit I (cost_in I handed)) (λ path d done. done.made) (λ path split due. (open_weaker plan handed path later due.0, due.1))
+    built_made : (base : Path) (old : Duals) (plan handed plan' : Option Plan) (s : Spent) → IsNoWorse I plan handed → (t : Node) (path : Path) → IsBuiltOf (IsDoneLeaf I base old plan' s) (IsDueSplit I (cost_in I plan)) path t → IsMade I (cost_in I handed) (cost_in I plan') base old path t
+    built_made base old plan handed plan' s later =
+        built_weaker (IsDoneLeaf I base old plan' s) (IsMadeLeaf I (cost_in I plan') base old) (IsDueSplit I (cost_in I plan)) (IsDueSplit I (cost_in I handed)) (λ path d done. done.made) (λ path split due. (open_weaker plan handed path later due.0, due.1))
 
-    pub part_renewed : (handed plan plan' : Option Plan) (budget before made : ℕ) (path : Path) (d : Duals) (part : Tree) → before ≤ budget → IsNoWorse I plan handed → (LeafCloses I path d (cost_in I handed) → ⊥) → nodes_of part ≡ made + 1 → IsGrownPart I path d plan plan' ((budget - before) + 1) part → IsRenewed I handed plan' budget (before + made) path d part.root
-    part_renewed handed plan plan' budget before made path d part within later unclosed count grown = record {
-      grown = inr (unclosed, built_made path d plan handed plan' ((budget - before) + 1) (nodes_of part) later part.root path grown.root);
+    pub part_renewed : (handed plan plan' : Option Plan) (before : ℕ) (s : Spent) (path : Path) (d : Duals) (part : Tree) → IsNoWorse I plan handed → (LeafCloses I path d (cost_in I handed) → ⊥) → IsGrownPart I path d plan plan' before s part → IsRenewed I handed plan' s.budget s.made path d part.root
+    part_renewed handed plan plan' before s path d part later unclosed grown = record {
+      grown = inr (unclosed, built_made path d plan handed plan' s later part.root path grown.root);
       ended =
-          All-weaker (λ l. IsDoneLeaf I path d plan' ((budget - before) + 1) (nodes_of part) l.0 l.1) (λ l. HasEnded I plan' budget (before + made) l.0 l.1)
-          (λ l done. done_ended path d plan' ((budget - before) + 1) (nodes_of part) budget (before + made) (omega (arith, count, within)) l.0 l.1 done)
+          All-weaker (λ l. IsDoneLeaf I path d plan' s l.0 l.1) (λ l. HasEnded I plan' s.budget s.made l.0 l.1)
+          (λ l done. done_ended path d plan' s l.0 l.1 done)
           (leaves_below path part.root)
-          (built_leaves (IsDoneLeaf I path d plan' ((budget - before) + 1) (nodes_of part)) (IsDueSplit I (cost_in I plan)) part.root path grown.root);
+          (built_leaves (IsDoneLeaf I path d plan' s) (IsDueSplit I (cost_in I plan)) part.root path grown.root);
     }
 
   -- The whole tree.
@@ -216,11 +214,11 @@ parts_weaker R R' from ls [] are = tt
 parts_weaker R R' from [] (p ∷ ps) are = absurd are
 parts_weaker R R' from (l ∷ ls) (p ∷ ps) are = (from l.0 l.1 p are.0, parts_weaker R R' from ls ps are.1)
 
-module _ (I : Instance) (valid : IsValid I) (old : Tree) (handed : Option Plan) (budget : ℕ) (held : List Bool) (are : AreHeld I old (cost_in I handed) held) where
-  pub regrown_start : (r : Renewing) → r ≡ renewing_from old → (so_now : IsRegrowing I old handed handed budget r 0) × (length so_now.parts ≡ 0)
-  regrown_start r is = (record { parts = []; so_far = is ∙ begun_to old; renewed = tt; count = omega arith; within = omega arith }, refl)
+module _ (I : Instance) (valid : IsValid I) (old : Tree) (handed : Option Plan) (held : List Bool) (are : AreHeld I old (cost_in I handed) held) where
+  pub regrown_start : (s : Spent) → s.made ≡ 0 → (r : Renewing) → r ≡ renewing_from old → (so_now : IsRegrowing I old handed handed s.budget r s.made) × (length so_now.parts ≡ 0)
+  regrown_start s fresh r is = (record { parts = []; so_far = is ∙ begun_to old; renewed = tt; count = omega (arith, fresh); within = omega (arith, fresh) }, refl)
 
-  module _ (tree : IsTree old) (stands : StandsOn old I) (fit : All (λ l. LeafFits I l.1) (leaves_of old)) (plan : Option Plan) (r : Renewing) (made place : ℕ) (within : place < length held) (so_far : IsRegrowing I old handed plan budget r made) (at : length so_far.parts ≡ place) where
+  module _ (tree : IsTree old) (stands : StandsOn old I) (fit : All (λ l. LeafFits I l.1) (leaves_of old)) (plan : Option Plan) (s : Spent) (r : Renewing) (place : ℕ) (within : place < length held) (so_far : IsRegrowing I old handed plan s.budget r s.made) (at : length so_far.parts ≡ place) where
     leaf : (l : Path × Duals) × (slice_get (leaves_of old) place ≡ Some l)
     leaf = some_at (leaves_of old) place (omega (arith, within, are.len))
 
@@ -250,7 +248,7 @@ module _ (I : Instance) (valid : IsValid I) (old : Tree) (handed : Option Plan) 
     pub on_customers : r.tree.customers ≡ customer_ids I
     on_customers = ap (λ (x : Renewing). x.tree.customers) so_far.so_far ∙ stands.customers
 
-    pub nodes_so_far : nodes_of r.tree ≡ nodes_of old + made
+    pub nodes_so_far : nodes_of r.tree ≡ nodes_of old + s.made
     nodes_so_far =
         omega (
           arith,
@@ -264,45 +262,45 @@ module _ (I : Instance) (valid : IsValid I) (old : Tree) (handed : Option Plan) 
         subst (λ o. IfSome o (λ l. IsTrue h ↔ LeafCloses I l.0 l.1 (cost_in I handed))) leaf.1
         (subst (λ o. IfSome o (λ h. IfSome (slice_get (leaves_of old) place) (λ l. IsTrue h ↔ LeafCloses I l.0 l.1 (cost_in I handed)))) here (are.each place))
 
-    pub held_step : slice_get held place ≡ Some true → IsNoWorse I plan handed → (r' : Renewing) → r' ≡ stayed r → (so_now : IsRegrowing I old handed plan budget r' made) × (length so_now.parts ≡ place + 1)
+    pub held_step : slice_get held place ≡ Some true → IsNoWorse I plan handed → (r' : Renewing) → r' ≡ stayed r → (so_now : IsRegrowing I old handed plan s.budget r' s.made) × (length so_now.parts ≡ place + 1)
     held_step here later r' is = (
       record {
         parts = so_far.parts ++ Leaf leaf.0.1 ∷ [];
         so_far = is ∙ ap stayed so_far.so_far ∙ stayed_to old so_far.parts leaf.0 hand;
-        renewed = parts_more (IsRenewed I handed plan budget made) (leaves_of old) so_far.parts leaf.0 (Leaf leaf.0.1) so_far.renewed behind (held_renewed I handed plan budget made leaf.0.0 leaf.0.1 valid path_known later ((told true here).0 refl));
+        renewed = parts_more (IsRenewed I handed plan s.budget s.made) (leaves_of old) so_far.parts leaf.0 (Leaf leaf.0.1) so_far.renewed behind (held_renewed I handed plan s.budget s.made leaf.0.0 leaf.0.1 valid path_known later ((told true here).0 refl));
         count = omega (arith, so_far.count, length-append so_far.parts (Leaf leaf.0.1 ∷ []), leaves_in-push so_far.parts (Leaf leaf.0.1));
         within = so_far.within;
       },
       omega (arith, at, length-append so_far.parts (Leaf leaf.0.1 ∷ [])),
     )
 
-    module _ (plan' : Option Plan) (r' : Renewing) (more : ℕ) (grown : IsGrownAt I r plan plan' (budget - made) r' more) where
-      part : IsGrownPart I leaf.0.0 leaf.0.1 plan plan' ((budget - made) + 1) grown.part
-      part = subst (λ o. IfSome o (λ l. IsGrownPart I l.0 l.1 plan plan' ((budget - made) + 1) grown.part)) leaf_now grown.grown
+    module _ (plan' : Option Plan) (s' : Spent) (r' : Renewing) (grown : IsGrownAt I r plan plan' s.made s' r') where
+      part : IsGrownPart I leaf.0.0 leaf.0.1 plan plan' s.made s' grown.part
+      part = subst (λ o. IfSome o (λ l. IsGrownPart I l.0 l.1 plan plan' s.made s' grown.part)) leaf_now grown.grown
 
-      pub made_fits : made + more ≤ budget
-      made_fits = omega (arith, part.within, grown.count, so_far.within)
+      more : s.made ≤ s'.made
+      more = omega (arith, part.count, some_node grown.part.root)
 
-      pub grown_step : slice_get held place ≡ Some false → IsNoWorse I plan handed → IsNoWorse I plan' plan → (so_now : IsRegrowing I old handed plan' budget r' (made + more)) × (length so_now.parts ≡ place + 1)
-      grown_step here later better =
-          let has : IsRenewed I handed plan' budget (made + more) leaf.0.0 leaf.0.1 grown.part.root =
-          part_renewed I valid handed plan plan' budget made more leaf.0.0 leaf.0.1 grown.part so_far.within later
-          (λ closes. both_ways false refl ((told false here).1 closes)) grown.count part in
-          let before : AreRenewedParts (IsRenewed I handed plan' budget (made + more)) (leaves_of old) so_far.parts =
-          parts_weaker (IsRenewed I handed plan budget made) (IsRenewed I handed plan' budget (made + more)) (renewed_still I handed plan' plan budget (made + more) made better (omega arith)) (leaves_of old) so_far.parts so_far.renewed in (
+      pub grown_step : slice_get held place ≡ Some false → IsNoWorse I plan handed → IsNoWorse I plan' plan → s'.budget ≤ s.budget → (so_now : IsRegrowing I old handed plan' s'.budget r' s'.made) × (length so_now.parts ≡ place + 1)
+      grown_step here later better less =
+          let has : IsRenewed I handed plan' s'.budget s'.made leaf.0.0 leaf.0.1 grown.part.root =
+          part_renewed I valid handed plan plan' s.made s' leaf.0.0 leaf.0.1 grown.part later
+          (λ closes. both_ways false refl ((told false here).1 closes)) part in
+          let before : AreRenewedParts (IsRenewed I handed plan' s'.budget s'.made) (leaves_of old) so_far.parts =
+          parts_weaker (IsRenewed I handed plan s.budget s.made) (IsRenewed I handed plan' s'.budget s'.made) (renewed_still I handed plan' plan s'.budget s.budget s'.made s.made better less more) (leaves_of old) so_far.parts so_far.renewed in (
             record {
               parts = so_far.parts ++ grown.part.root ∷ [];
               so_far = grown.now ∙ ap (λ (x : Renewing). given x grown.part) so_far.so_far ∙ given_to old so_far.parts grown.part (omega (arith, at, within, are.len));
-              renewed = parts_more (IsRenewed I handed plan' budget (made + more)) (leaves_of old) so_far.parts leaf.0 grown.part.root before behind has;
-              count = omega (arith, so_far.count, length-append so_far.parts (grown.part.root ∷ []), leaves_in-push so_far.parts grown.part.root, leaves_and_splits grown.part.root [], grown.count);
-              within = made_fits;
+              renewed = parts_more (IsRenewed I handed plan' s'.budget s'.made) (leaves_of old) so_far.parts leaf.0 grown.part.root before behind has;
+              count = omega (arith, so_far.count, length-append so_far.parts (grown.part.root ∷ []), leaves_in-push so_far.parts grown.part.root, leaves_and_splits grown.part.root [], part.count);
+              within = part.within;
             },
             omega (arith, at, length-append so_far.parts (grown.part.root ∷ [])),
           )
 
   -- once each leaf was looked at
-  pub regrown : (plan : Option Plan) (r : Renewing) (made : ℕ) (so_far : IsRegrowing I old handed plan budget r made) → length so_far.parts ≡ length held → (t : Tree) → t ≡ r.tree → IsRegrownFrom I old handed plan budget t made
-  regrown plan r made so_far all t is =
+  pub regrown : (plan : Option Plan) (r : Renewing) (budget made : ℕ) (so_far : IsRegrowing I old handed plan budget r made) → length so_far.parts ≡ length held → (t : Tree) → t ≡ r.tree → IsRegrownFrom I old handed plan budget t made
+  regrown plan r budget made so_far all t is =
       let new : Tree = (renewing_to old so_far.parts).tree in
       let here : t ≡ new = is ∙ ap (λ (x : Renewing). x.tree) so_far.so_far in
       let whole = grown_whole I handed plan budget made old.root [] [] so_far.parts (omega (arith, all, are.len)) (subst (λ ls. AreRenewedParts (IsRenewed I handed plan budget made) ls so_far.parts) (sym (append-nil (leaves_of old))) so_far.renewed) in

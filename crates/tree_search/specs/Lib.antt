@@ -7,6 +7,7 @@ pub mod Stored
 pub mod Answer
 pub mod Budget
 pub mod Best
+pub mod Spending
 pub mod Searching
 pub mod Working
 pub mod Regrown

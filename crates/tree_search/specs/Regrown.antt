@@ -14,6 +14,7 @@ use Rattle.tree_search.specs.declared.answer.Answer.{Answer}
 use Rattle.tree_search.specs.Made.{IsMade}
 use Rattle.tree_search.specs.Grown.{IsGrownFrom}
 use Rattle.tree_search.specs.Answer.{HasFreeCount, cost_in, plan_in, tree_in, made_in, certificate_in, IsCauseOf}
+use Rattle.tree_search.specs.Spending.{Spent}
 use Rattle.tree_search.specs.Working.{ClosesWith, IsSoughtAt, IsGrownPart}
 
 -- a leaf that may be worked
@@ -52,12 +53,11 @@ pub record IsRegrowing (I : Instance) (old : Tree) (handed plan : Option Plan) (
   pub count : made + 2 * length parts ≡ 2 * leaves_in parts
   pub within : made ≤ budget
 
--- a tree grew in the place of the leaf at hand, and its splits made so many nodes
-pub record IsGrownAt (I : Instance) (old : Renewing) (handed plan : Option Plan) (budget : ℕ) (new : Renewing) (made : ℕ) : Type 0 where
+-- a tree grew in the place of the leaf at hand, from where so many nodes were made before
+pub record IsGrownAt (I : Instance) (old : Renewing) (handed plan : Option Plan) (before : ℕ) (s : Spent) (new : Renewing) : Type 0 where
   pub part : Tree
   pub now : new ≡ given old part
-  pub count : nodes_of part ≡ made + 1
-  pub grown : IfSome (slice_get old.ahead 0) (λ l. IsGrownPart I l.0 l.1 handed plan (budget + 1) part)
+  pub grown : IfSome (slice_get old.ahead 0) (λ l. IsGrownPart I l.0 l.1 handed plan before s part)
 
 -- the tree once each leaf was looked at
 pub record IsRegrownFrom (I : Instance) (old : Tree) (handed plan : Option Plan) (budget : ℕ) (new : Tree) (made : ℕ) : Type 0 where

@@ -21,6 +21,7 @@ use Rattle.tree_search.specs.declared.strengthen.Tried.TheVariants.{More, Last, 
 use Rattle.tree_search.specs.Made.{has_cap, IsMadeLeaf, NeedsSplit, IsOpenSplit, IsDueSplit}
 use Rattle.tree_search.specs.Making.{LowersNone}
 use Rattle.tree_search.specs.Answer.{cost_in}
+use Rattle.tree_search.specs.Spending.{Spent}
 
 -- One leaf.
 
@@ -71,11 +72,11 @@ pub record IsWorked (I : Instance) (plan : Option Plan) (may_split : Bool) (old 
 
 -- The tree that grows in the place of a leaf, whose path and duals are `base` and `old`.
 
--- a leaf that is done: it is made, plans were sought for it, and it closes, or one split more passes the limit of nodes
-pub record IsDoneLeaf (I : Instance) (base : Path) (old : Duals) (plan : Option Plan) (limit nodes : ℕ) (path : Path) (d : Duals) : Type 0 where
+-- a leaf that is done: it is made, plans were sought for it, and it closes, or one split more passes the budget
+pub record IsDoneLeaf (I : Instance) (base : Path) (old : Duals) (plan : Option Plan) (s : Spent) (path : Path) (d : Duals) : Type 0 where
   pub made : IsMadeLeaf I (cost_in I plan) base old path d
   pub sought : 1 ≤ d.q → IsSoughtAt I plan path d
-  pub ends : ClosesWith I plan path d ⊎ (limit < nodes + 2)
+  pub ends : ClosesWith I plan path d ⊎ (s.budget < s.made + 2)
 
 -- a leaf whose path goes on from the base
 pub record IsReached (I : Instance) (base : Path) (path : Path) (d : Duals) : Type 0 where
@@ -86,23 +87,25 @@ pub record IsReached (I : Instance) (base : Path) (path : Path) (d : Duals) : Ty
 abbrev pub AnySplit : Path → Split → Type 0
 AnySplit path split = Unit {0}
 
--- the tree while it grows
-pub record IsGrowing (I : Instance) (base : Path) (old : Duals) (handed plan : Option Plan) (limit : ℕ) (g : Growing) : Type 0 where
+-- the tree while it grows, from where so many nodes were made before
+pub record IsGrowing (I : Instance) (base : Path) (old : Duals) (handed plan : Option Plan) (before : ℕ) (s : Spent) (g : Growing) : Type 0 where
   pub at : g.base ≡ base
   pub sites : g.tree.sites ≡ site_ids I
   pub customers : g.tree.customers ≡ customer_ids I
   pub reached : IsBuiltIn (IsReached I base) AnySplit g
-  pub done : IsDoneIn (IsDoneLeaf I base old plan limit (nodes_of g.tree)) (IsDueSplit I (cost_in I handed)) g
-  pub within : nodes_of g.tree ≤ limit
+  pub done : IsDoneIn (IsDoneLeaf I base old plan s) (IsDueSplit I (cost_in I handed)) g
+  pub count : nodes_of g.tree + before ≡ s.made + 1
+  pub within : s.made ≤ s.budget
   pub no_worse : IsNoWorse I plan handed
 
 -- how many steps are left at most
-abbrev pub steps_left : ℕ → Growing → ℕ
-steps_left limit g = (limit - nodes_of g.tree) + g.left
+abbrev pub steps_left : Spent → Growing → ℕ
+steps_left s g = (s.budget - s.made) + g.left
 
 -- the whole tree
-pub record IsGrownPart (I : Instance) (base : Path) (old : Duals) (handed plan : Option Plan) (limit : ℕ) (t : Tree) : Type 0 where
+pub record IsGrownPart (I : Instance) (base : Path) (old : Duals) (handed plan : Option Plan) (before : ℕ) (s : Spent) (t : Tree) : Type 0 where
   pub sites : t.sites ≡ site_ids I
   pub customers : t.customers ≡ customer_ids I
-  pub root : IsBuiltOf (IsDoneLeaf I base old plan limit (nodes_of t)) (IsDueSplit I (cost_in I handed)) base t.root
-  pub within : nodes_of t ≤ limit
+  pub root : IsBuiltOf (IsDoneLeaf I base old plan s) (IsDueSplit I (cost_in I handed)) base t.root
+  pub count : nodes_of t + before ≡ s.made + 1
+  pub within : s.made ≤ s.budget

@@ -27,3 +27,13 @@ pub enum Answer {
         made: u32,
     },
 }
+
+/// What a search came to, and the budget that was in force at its end.
+#[derive(Drop)]
+pub struct Searched {
+    /// What it came to, with that budget.
+    pub answer: Answer,
+    /// The given budget, and where the watch said "enough" the lesser of it and of one more than the nodes that the
+    /// splits had made by then.
+    pub budget: u32,
+}

@@ -14,6 +14,7 @@ ghost use Rattle.tree_search.specs.Working.{IsClosingLeaf};
 
 use crate::incumbent::Incumbent;
 use crate::leaf_maker::LeafMaker;
+use crate::lows::low_end;
 use dual_value::{Duals, PreparedBox, fits};
 use instance_store::{Instance, NoMemory};
 use lane_order::LaneOrder;
@@ -102,6 +103,11 @@ impl<'a> Search<'a> {
         ensures { IsTrue result ↔ BoundCloses self.now.leaf.bound self.now.leaf.best.duals.q (cost_in self.now.best.instance self.now.best.plan) }
     {
         self.leaf.closes(self.cost())
+    }
+
+    /// What no plan of the box of the leaf at work costs less than, in millionths, by its best duals.
+    pub(crate) fn low(&self) -> u64 {
+        low_end(self.leaf.bound(), self.leaf.duals().q())
     }
 
     /// Takes this plan over, if there is one, where it costs less than the best.

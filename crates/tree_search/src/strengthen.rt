@@ -1,12 +1,15 @@
 //! What makes an open leaf stronger, and finds plans: moves that a strategy proposes.
 ghost use Rattle.std.specs.Prelude.{IfOk, IfSome, OnOk};
 ghost use Rattle.tree_search.specs.Searching.{IsSearchAt, GoesOn};
+ghost use Rattle.tree_search.specs.Spending.{IsHeard};
 ghost use Rattle.tree_search.specs.Working.{Tells, IsClosingLeaf};
 
 use crate::search::Search;
+use crate::spending::Spending;
 use dual_value::{Duals, PreparedBox};
 use instance_store::NoMemory;
 use strategy_port::{Move, Strategy};
+use watch_port::Watch;
 
 // The most moves in a box: more than any strategy needs, so that each comes to an end.
 const MAX_MOVES: u32 = 100_000;
@@ -22,16 +25,19 @@ enum Tried {
     Closing(Duals),
 }
 
-/// Makes an open leaf stronger, and looks for better plans, by what the strategy proposes, while the leaf is open.
-/// Where whole knapsacks or a ray close the box, the answer is their duals. It fails only where memory runs out.
-pub(crate) fn strengthen<S: Strategy>(
+/// Makes an open leaf stronger, and looks for better plans, by what the strategy proposes, while the leaf is open
+/// and the watch, which is asked behind each move, lets it. Where whole knapsacks or a ray close the box, the answer is their duals. It fails only where memory runs out.
+pub(crate) fn strengthen<S: Strategy, W: Watch>(
     search: &mut Search<'_>,
     strategy: &mut S,
+    watch: &mut W,
     boxed: &PreparedBox<'_>,
+    spending: &mut Spending,
 ) -> Result<Option<Duals>, NoMemory>
     requires { IsSearchAt boxed.now search.old }
     ensures on { OnOk result (GoesOn boxed.now search.old search.new) }
     ensures closing { IfOk result (λ found. IfSome found (IsClosingLeaf boxed.now.instance search.new.best.plan boxed.now.path)) }
+    ensures heard { IsHeard spending.old spending.new (W.enoughs watch.old) (W.enoughs watch.new) }
 {
     search.begin_asking();
     strategy.enter(&search.scene(boxed));
@@ -43,6 +49,10 @@ pub(crate) fn strengthen<S: Strategy>(
             Tried::More => {}
         }
         if search.closes() {
+            return Ok(None);
+        }
+        spending.note(search.low());
+        if spending.hear(watch, search.cost()) {
             return Ok(None);
         }
     }

@@ -8,11 +8,13 @@ ghost use Rattle.tree_search.specs.Rays.{IsRayless};
 ghost use Rattle.tree_search.specs.Making.{LowersNone, IsMaking};
 ghost use Rattle.tree_search.specs.Best.{Improves};
 ghost use Rattle.tree_search.specs.Searching.{IsSearchAt, GoesOn};
+ghost use Rattle.tree_search.specs.Spending.{IsHeard, has_split_left};
 ghost use Rattle.tree_search.specs.Made.{IsOpenSplit};
 ghost use Rattle.tree_search.specs.Working.{ClosesWith, IsPressed, IsSettled, IsClosingLeaf, IsVerdict, IsWorked};
 
 use crate::rays::ray;
 use crate::search::Search;
+use crate::spending::Spending;
 use crate::splitting::{split_lane, split_place};
 use crate::strengthen::strengthen;
 use branch_tree::Split;
@@ -20,6 +22,7 @@ use dual_value::{Duals, Path, PreparedBox};
 use instance_store::NoMemory;
 use plan_search::packed_in;
 use strategy_port::Strategy;
+use watch_port::Watch;
 
 /// What the work on a box comes to.
 #[derive(Drop)]
@@ -31,37 +34,42 @@ pub(crate) struct Worked {
 }
 
 /// Works the box of the path, where the leaf with the duals `replaced` is replaced and those of a box
-/// nearby are `near`. Better plans that are found go to the search. It fails only where memory runs out.
-pub(crate) fn work<S: Strategy>(
+/// nearby are `near`. The watch is asked before. Better plans that are found go to the search. It fails only where
+/// memory runs out.
+pub(crate) fn work<S: Strategy, W: Watch>(
     search: &mut Search<'_>,
     strategy: &mut S,
+    watch: &mut W,
     path: &Path,
     replaced: &Duals,
     near: &Duals,
-    may_split: bool,
+    spending: &mut Spending,
 ) -> Result<Worked, NoMemory>
     requires path { IsPathOf search.old.best.instance path.now }
     requires replaced { DualsFit search.old.best.instance replaced.now }
     requires near { DualsFit search.old.best.instance near.now }
     ensures plan { OnOk result (Improves search.old.best search.new.best) }
-    ensures worked { IfOk result (λ w. IsWorked search.old.best.instance search.new.best.plan may_split replaced.now path.now w.duals w.split) }
+    ensures worked { IfOk result (λ w. IsWorked search.old.best.instance search.new.best.plan (has_split_left spending.new) replaced.now path.now w.duals w.split) }
+    ensures heard { IsHeard spending.old spending.new (W.enoughs watch.old) (W.enoughs watch.new) }
 {
+    spending.hear(watch, search.cost());
     let boxed = PreparedBox::of(search.alloc, search.instance(), path)?;
     let found = ray(search.alloc, &boxed, search.order)?;
     match found {
         Some(duals) => Ok(Worked { duals, split: None }),
-        None => rayless(search, strategy, &boxed, replaced, near, may_split),
+        None => rayless(search, strategy, watch, &boxed, replaced, near, spending),
     }
 }
 
 // In a box that no simple ray closes.
-fn rayless<S: Strategy>(
+fn rayless<S: Strategy, W: Watch>(
     search: &mut Search<'_>,
     strategy: &mut S,
+    watch: &mut W,
     boxed: &PreparedBox<'_>,
     replaced: &Duals,
     near: &Duals,
-    may_split: bool,
+    spending: &mut Spending,
 ) -> Result<Worked, NoMemory>
     requires instance { search.old.best.instance ≡ boxed.now.instance }
     requires path { IsPathOf boxed.now.instance boxed.now.path }
@@ -69,51 +77,60 @@ fn rayless<S: Strategy>(
     requires near { DualsFit boxed.now.instance near.now }
     requires rayless { IsRayless boxed.now.instance boxed.now.path }
     ensures plan { OnOk result (Improves search.old.best search.new.best) }
-    ensures worked { IfOk result (λ w. IsWorked boxed.now.instance search.new.best.plan may_split replaced.now boxed.now.path w.duals w.split) }
+    ensures worked { IfOk result (λ w. IsWorked boxed.now.instance search.new.best.plan (has_split_left spending.new) replaced.now boxed.now.path w.duals w.split) }
+    ensures heard { IsHeard spending.old spending.new (W.enoughs watch.old) (W.enoughs watch.new) }
 {
     search
         .leaf
         .enter(search.alloc, boxed, search.order, replaced, near)?;
-    let worked = made(search, strategy, boxed, may_split)?;
+    spending.note(search.low());
+    let worked = made(search, strategy, watch, boxed, spending)?;
     Ok(worked)
 }
 
 // Makes the leaf as strong as it gets, and sees whether it has to be split.
-fn made<S: Strategy>(
+fn made<S: Strategy, W: Watch>(
     search: &mut Search<'_>,
     strategy: &mut S,
+    watch: &mut W,
     boxed: &PreparedBox<'_>,
-    may_split: bool,
+    spending: &mut Spending,
 ) -> Result<Worked, NoMemory>
     requires at { IsSearchAt boxed.now search.old }
     requires rayless { IsRayless boxed.now.instance boxed.now.path }
     ensures plan { OnOk result (Improves search.old.best search.new.best) }
     ensures worked { IfOk result (λ w. (old : Prices) →
         ((old_path : Decisions) → LowersNone boxed.now.instance old_path boxed.now.path → IsMaking boxed.now.instance old_path old boxed.now.path search.old.leaf) →
-        IsWorked boxed.now.instance search.new.best.plan may_split old boxed.now.path w.duals w.split) }
+        IsWorked boxed.now.instance search.new.best.plan (has_split_left spending.new) old boxed.now.path w.duals w.split) }
+    ensures heard { IsHeard spending.old spending.new (W.enoughs watch.old) (W.enoughs watch.new) }
 {
     // An instance is valid, so that bounds hold.
     let _sites = search.instance().sites();
-    if let Some(duals) = press(search, strategy, boxed)? {
+    if let Some(duals) = press(search, strategy, watch, boxed, spending)? {
         return Ok(Worked { duals, split: None });
     }
     search.leaf.settle(boxed, search.order);
-    let split = verdict(search, strategy, boxed, may_split)?;
+    spending.note(search.low());
+    let split = verdict(search, strategy, boxed, spending.has_split_left())?;
     let duals = search.leaf.duals().copied()?;
     Ok(Worked { duals, split })
 }
 
-// While the leaf is open: packs a plan at the tight sites of the plain ascent, and makes it stronger. Where whole
+// While the leaf is open: packs a plan at the tight sites of the plain ascent, and makes it stronger, unless the
+// search is over. Where whole
 // knapsacks or a ray close the box, the answer is their duals.
-fn press<S: Strategy>(
+fn press<S: Strategy, W: Watch>(
     search: &mut Search<'_>,
     strategy: &mut S,
+    watch: &mut W,
     boxed: &PreparedBox<'_>,
+    spending: &mut Spending,
 ) -> Result<Option<Duals>, NoMemory>
     requires { IsSearchAt boxed.now search.old }
     ensures on { OnOk result (GoesOn boxed.now search.old search.new) }
     ensures pressed { OnOk result (IsPressed boxed.now.instance search.new.best.plan boxed.now.path search.old.leaf.plain search.new.leaf.best.duals) }
     ensures closing { IfOk result (λ found. IfSome found (IsClosingLeaf boxed.now.instance search.new.best.plan boxed.now.path)) }
+    ensures heard { IsHeard spending.old spending.new (W.enoughs watch.old) (W.enoughs watch.new) }
 {
     if is_closed(search, boxed) {
         return Ok(None);
@@ -128,7 +145,10 @@ fn press<S: Strategy>(
     if is_closed(search, boxed) {
         return Ok(None);
     }
-    let found = strengthen(search, strategy, boxed)?;
+    if spending.is_over() {
+        return Ok(None);
+    }
+    let found = strengthen(search, strategy, watch, boxed, spending)?;
     Ok(found)
 }
 

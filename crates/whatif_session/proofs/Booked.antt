@@ -1,9 +1,8 @@
 -- The book of the last solve's tree: which tree that is, and how the book follows edits and their being taken back.
-use Rattle.std.proofs.Common.{◌≡◌, ◌⊎◌, ℕ, ◌+◌, ◌≤◌, ◌<◌, Bool, true, false, List, [], ◌∷◌, ◌++◌, length, Option, None, Some, refl, sym, ap, subst, ◌∙◌, inl, inr, arith, rules}
-use Rattle.std.specs.Prelude.{◌==◌, ◌≢◌, ◌↔◌, IfSome, IsSome, is_some, map, option_and_then, unwrap_or, Result, Ok, Err, if◌then◌else◌}
+use Rattle.std.proofs.Common.{◌≡◌, ◌⊎◌, ℕ, suc, ◌+◌, ◌≤◌, ◌<◌, Bool, true, false, List, [], ◌∷◌, ◌++◌, length, Option, None, Some, refl, sym, ap, subst, ◌∙◌, inl, inr, arith, rules}
+use Rattle.std.specs.Prelude.{◌==◌, ◌≢◌, ◌↔◌, All, IfSome, IsSome, is_some, map, option_and_then, unwrap_or, Result, Ok, Err, if◌then◌else◌}
 use Rattle.std.proofs.lemmas.Bool.{eqb-true, eq-eqb, ne_eqb}
 use Rattle.location_terms.specs.Instance.{Instance}
-use Rattle.location_terms.specs.Plan.{Plan}
 use Rattle.location_terms.specs.Tree.{Tree}
 use Rattle.certificate_lines.specs.Length.{DecidesOnce}
 use Rattle.instance_edits.specs.declared.edit.Edit.{Edit}
@@ -13,14 +12,14 @@ use Rattle.instance_edits.specs.Edits.{edits_applied}
 use Rattle.instance_edits.specs.Undo.{put_back}
 use Rattle.edit_history.specs.History.{HeldEdit, History, IsBeforeLast, LeadsOn}
 use Rattle.leaf_book.specs.declared.change.Change.{Change}
-use Rattle.leaf_book.specs.Book.{Book, IsBookOf, IsByPrices, HasRoomFor}
+use Rattle.leaf_book.specs.Book.{Book, IsBookOf, IsByPrices}
 use Rattle.leaf_book.specs.Changes.{change_back}
 use Rattle.leaf_repair.specs.CarriedTree.{carried_tree}
 use Rattle.whatif_session.specs.State.{Solved, last_of, last_solves, found_in}
 use Rattle.whatif_session.specs.Kept.{IsAmong, AreAmong, AreSolves}
 use Rattle.whatif_session.specs.Search.{restored_in, tree_after, IsOfFormer}
 use Rattle.whatif_session.specs.Booked.{last_tree_in, KeepsBook}
-use Rattle.whatif_session.specs.BookSteps.{tree_number, AreInTurn, IsBooked, IsBookBefore, IsReadyBack, IsBookBehind}
+use Rattle.whatif_session.specs.BookSteps.{tree_number, AreInTurn, IsBooked, IsBookBefore, IsBookBehind}
 use Rattle.whatif_session.proofs.Rings.{found_more, last_kept}
 
 -- Serial numbers that never fall.
@@ -31,6 +30,13 @@ turn_more least (x ∷ edits) held turn = (turn.0, turn_more (tree_number x.seri
 turn_rises : (least low high : ℕ) (edits : List HeldEdit) → low ≤ high → AreInTurn least edits low → AreInTurn least edits high
 turn_rises least low high [] more within = omega (arith, more, within)
 turn_rises least low high (x ∷ edits) more turn = (turn.0, turn_rises (tree_number x.serial) low high edits more turn.1)
+
+-- edits beside which no tree stands
+pub turn_none : (edits : List HeldEdit) → All (λ held. held.serial ≡ None) edits → AreInTurn 0 edits 0
+turn_none [] unsolved = omega arith
+turn_none (x ∷ edits) unsolved =
+    let none : tree_number x.serial ≡ 0 = ap tree_number (unsolved 0 x (omega arith)) in
+    (omega arith, subst (λ n. AreInTurn n edits 0) (sym none) (turn_none edits (λ k d less. unsolved (suc k) d (omega (arith, less)))))
 
 pub turn_back : (least greatest : ℕ) (edits : List HeldEdit) (held : HeldEdit) → AreInTurn least (edits ++ held ∷ []) greatest → AreInTurn least edits (tree_number held.serial) × (tree_number held.serial ≤ greatest)
 turn_back least greatest [] held turn = turn

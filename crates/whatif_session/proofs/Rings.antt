@@ -21,7 +21,7 @@ drop_at (y ∷ xs) zero x at = ap (λ o. unwrap_or o y ∷ xs) at
 drop_at (y ∷ xs) (suc k) x at = drop_at xs k x at
 
 -- the last serial number
-pub last_told : (solves : List KeptSolve) → last_or None (map (λ solved. solved.serial) (map told_solve solves)) ≡ option_map (λ solve. solve.serial) (slice_get solves (length solves - 1))
+pub last_told : {K : Type 0} (solves : List (KeptSolve K)) → last_or None (map (λ solved. solved.serial) (map told_solve solves)) ≡ option_map (λ solve. solve.serial) (slice_get solves (length solves - 1))
 last_told [] = refl
 last_told (x ∷ []) = refl
 last_told (x ∷ y ∷ solves) =
@@ -83,7 +83,7 @@ module _ (solves : List Solved) (y : Solved) where
   last_kept = ap last_of kept_more ∙ last_of-more (drop (length (solves ++ y ∷ []) - KEPT_SOLVES) solves) y
 
 -- what the ring keeps is what is told to be kept
-pub told_more : (solves : List KeptSolve) (y : KeptSolve) (room : ℕ) → room ≡ KEPT_SOLVES → map told_solve (drop (length (solves ++ y ∷ []) - room) (solves ++ y ∷ [])) ≡ last_solves (map told_solve solves ++ told_solve y ∷ [])
+pub told_more : {K : Type 0} (solves : List (KeptSolve K)) (y : KeptSolve K) (room : ℕ) → room ≡ KEPT_SOLVES → map told_solve (drop (length (solves ++ y ∷ []) - room) (solves ++ y ∷ [])) ≡ last_solves (map told_solve solves ++ told_solve y ∷ [])
 told_more solves y room is =
     let whole : map told_solve (solves ++ y ∷ []) ≡ map told_solve solves ++ told_solve y ∷ [] = map-append told_solve solves (y ∷ []) in
     sym (drop-map told_solve (length (solves ++ y ∷ []) - room) (solves ++ y ∷ []))
@@ -91,12 +91,12 @@ told_more solves y room is =
     ∙ ap (λ r. drop (length (map told_solve (solves ++ y ∷ [])) - r) (map told_solve (solves ++ y ∷ []))) is
     ∙ ap last_solves whole
 
-told_first : (b : Bool) (x : KeptSolve) (o : Option KeptSolve) (told_o : Option Solved) → option_map told_solve o ≡ told_o → option_map told_solve (if b then Some x else o) ≡ (if b then Some (told_solve x) else told_o)
+told_first : {K : Type 0} (b : Bool) (x : KeptSolve K) (o : Option (KeptSolve K)) (told_o : Option Solved) → option_map told_solve o ≡ told_o → option_map told_solve (if b then Some x else o) ≡ (if b then Some (told_solve x) else told_o)
 told_first true x o told_o is = refl
 told_first false x o told_o is = is
 
 -- what is found among solves is found among what is told of them
-pub told_found : (solves : List KeptSolve) (serial : ℕ) → option_map told_solve (find (λ solve. solve.serial == serial) solves) ≡ find (λ solved. solved.serial == serial) (map told_solve solves)
+pub told_found : {K : Type 0} (solves : List (KeptSolve K)) (serial : ℕ) → option_map told_solve (find (λ solve. solve.serial == serial) solves) ≡ find (λ solved. solved.serial == serial) (map told_solve solves)
 told_found [] serial = refl
 told_found (x ∷ solves) serial = told_first (x.serial == serial) x (find (λ solve. solve.serial == serial) solves) (find (λ solved. solved.serial == serial) (map told_solve solves)) (told_found solves serial)
 
@@ -119,9 +119,9 @@ once_found : (most : ℕ) (solves : List Solved) (serial : ℕ) → AreAmong mos
 once_found most [] serial among = tt
 once_found most (x ∷ solves) serial among = once_first (x.serial == serial) x (found_in solves serial) among.0.once (once_found most solves serial among.1)
 
-once_told : (o : Option KeptSolve) → IfSome (option_map told_solve o) (λ solved. DecidesOnce solved.tree) → IfSome o (λ solve. DecidesOnce solve.tree)
+once_told : {K : Type 0} (o : Option (KeptSolve K)) → IfSome (option_map told_solve o) (λ solved. DecidesOnce solved.tree) → IfSome o (λ solve. DecidesOnce solve.tree)
 once_told None once = tt
 once_told (Some solve) once = once
 
-pub once_kept : (o : Option KeptSolve) (solves : List Solved) (serial : ℕ) → AreSolves solves → option_map told_solve o ≡ found_in solves serial → IfSome o (λ solve. DecidesOnce solve.tree)
+pub once_kept : {K : Type 0} (o : Option (KeptSolve K)) (solves : List Solved) (serial : ℕ) → AreSolves solves → option_map told_solve o ≡ found_in solves serial → IfSome o (λ solve. DecidesOnce solve.tree)
 once_kept o solves serial among is = once_told o (subst (λ x. IfSome x (λ solved. DecidesOnce solved.tree)) (sym is) (once_found (last_of solves) solves serial among))

@@ -11,7 +11,7 @@ use Rattle.tree_search.specs.declared.answer.Answer.{Answer}
 use Rattle.tree_search.specs.Answer.{claim_in, plan_in, tree_in, certificate_in}
 use Rattle.certificate_lines.specs.Length.{DecidesOnce}
 use Rattle.edit_history.specs.History.{HeldEdit}
-use Rattle.whatif_session.specs.State.{Solved, SessionState, SessionView, last_of, last_solves, found_in, kept_solve, present_solve, standing_answer}
+use Rattle.whatif_session.specs.State.{Solved, SessionState, SessionView, last_of, last_solves, found_in, present_solve}
 use Rattle.session_lines.specs.Replies.{ok_text}
 use Rattle.whatif_session.specs.Step.{told_undo}
 use Rattle.whatif_session.specs.Search.{restored_in}
@@ -71,11 +71,11 @@ take_held (x ∷ more) held =
     length_held (y ∷ ys) held = omega arith
 
 pub undone_told : (state : SessionState) (more : List HeldEdit) (held : HeldEdit) (base : Instance) (present : Option ℕ) → base ≡ state.base → present ≡ restored_in state.solves held.serial state.present → state.edits ≡ more ++ held ∷ []
-    → told_undo state (last_or None state.edits) ≡ Ok (ok_text, record { base = base; edits = more; solves = state.solves; present = present; standing = None })
+    → told_undo state (last_or None state.edits) ≡ Ok (ok_text, record { base = base; edits = more; solves = state.solves; present = present; standing = None; in_force = state.in_force })
 undone_told state more held base present base_is present_is is =
     let last : last_or None state.edits ≡ Some held = ap (last_or None) is ∙ last_held None more held in
     let rest : take (length state.edits - 1) state.edits ≡ more = ap (λ es. take (length es - 1) es) is ∙ take_held more held in
-    ap (told_undo state) last ∙ (λ i. Ok (ok_text, record { base = sym base_is i; edits = rest i; solves = state.solves; present = sym present_is i; standing = None }))
+    ap (told_undo state) last ∙ (λ i. Ok (ok_text, record { base = sym base_is i; edits = rest i; solves = state.solves; present = sym present_is i; standing = None; in_force = state.in_force }))
 
 module _ (p q : SessionView) (solves : q.state.solves ≡ p.state.solves) (standing : q.state.standing ≡ None) where
   still_known : (o : Option ℕ) → IsKeptTree p o → IsKeptTree q o

@@ -1,35 +1,35 @@
 -- What a search starts from, and what it comes to.
-use Rattle.std.proofs.Common.{◌≡◌, ◌⊎◌, ℕ, ◌+◌, ◌*◌, ◌≤◌, List, [], ◌∷◌, length, Bool, Option, None, Some, refl, sym, ap, subst, ◌∙◌, inl, inr, arith}
+use Rattle.std.proofs.Common.{◌≡◌, ◌⊎◌, ℕ, ◌+◌, ◌*◌, ◌≤◌, List, [], length, Bool, Option, None, Some, refl, sym, ap, subst, ◌∙◌, inl, inr, arith}
 use Rattle.std.specs.Prelude.{All, IfSome, IfOk, Result, Ok, Err, option_map}
 use Rattle.std.proofs.lemmas.List.Elements.{All-nil, All-cons}
+use Rattle.std.proofs.lemmas.Nat.{mul-le}
 use Rattle.location_terms.specs.Instance.{Instance, IsValid}
-use Rattle.location_terms.specs.Plan.{Plan, IsFeasible, cost_of}
+use Rattle.location_terms.specs.Plan.{Plan, IsFeasible}
 use Rattle.location_terms.specs.Box.{Path}
 use Rattle.location_terms.specs.Bound.{Duals}
 use Rattle.location_terms.specs.Leaf.{LeafFits}
 use Rattle.location_terms.specs.Tree.{Tree, StandsOn, leaves_of, nodes_of}
-use Rattle.location_terms.specs.Carried.{IsHanded, carried_plan}
+use Rattle.location_terms.specs.Carried.{IsHanded}
 use Rattle.location_terms.proofs.Claims.{claim_holds}
 use Rattle.dual_value.specs.Zeros.{zeros}
 use Rattle.dual_value.proofs.Zeros.{zeros_fit}
 use Rattle.branch_tree.specs.Made.{leaf_of}
-use Rattle.leaf_repair.specs.CarriedTree.{carried_tree}
 use Rattle.leaf_repair.specs.Held.{TellsWhichClose}
 use Rattle.plan_meaning.specs.declared.fault.PlanFault.{PlanFault}
 use Rattle.plan_meaning.specs.declared.fault.PlanFault.TheVariants.{UnknownSite, NotEachCustomerOnce, ServedByClosed, NoLane, OverCapacity, SiteCount, StatusBroken}
 use Rattle.plan_meaning.specs.PlanFault.{IsFirstFault}
 use Rattle.tree_search.specs.declared.answer.Answer.{Answer}
 use Rattle.tree_search.specs.declared.answer.Answer.TheVariants.{Optimal, Infeasible, Bracket}
-use Rattle.tree_search.specs.Answer.{IsSearchStart, AreHeld, IsWithin, IsAnswerTo, cost_in, claim_in, plan_in, tree_in, certificate_in}
+use Rattle.tree_search.specs.Answer.{IsSearchStart, AreHeld, IsWithin, IsAnswerTo, cost_in, claim_in, plan_in, tree_in}
 use Rattle.tree_laws.proofs.Once.{leaf_once, carried_once, grown_once}
 use Rattle.tree_laws.proofs.Standing.{small_costs, short_text_of}
 use Rattle.certificate_lines.specs.Length.{DecidesOnce}
 use Rattle.whatif_session.specs.declared.solves.KeptSolve.{KeptSolve}
 use Rattle.whatif_session.specs.State.{Solved}
-use Rattle.whatif_session.specs.Standing.{IsStanding}
 use Rattle.whatif_session.specs.Kept.{told_solve}
-use Rattle.whatif_session.specs.declared.starting.Start.{Start}
-use Rattle.whatif_session.specs.Search.{tree_after, former_plan, carried_from, IsTarget, where_judged, IsStartFrom, IsFoundFrom}
+use Rattle.solver_port.specs.declared.start.Start.{Start}
+use Rattle.solver_port.specs.Start.{where_judged}
+use Rattle.whatif_session.specs.Search.{tree_after, former_plan, carried_from, IsTarget, IsStartFrom, IsFoundFrom}
 
 pub if_ok : {X E : Type 0} (r : Result X E) (P Q : X → Type 0) → ((x : X) → P x → Q x) → IfOk r P → IfOk r Q
 if_ok (Ok x) P Q step is = step x is
@@ -89,11 +89,11 @@ start I t held plan target handed budget stands fit few hand tells within = reco
 }
 
 -- What it comes to.
-once_from : (I : Instance) (former : Option KeptSolve) → IfSome former (λ solve. DecidesOnce solve.tree) → DecidesOnce (tree_after I (option_map told_solve former))
+once_from : {K : Type 0} (I : Instance) (former : Option (KeptSolve K)) → IfSome former (λ solve. DecidesOnce solve.tree) → DecidesOnce (tree_after I (option_map told_solve former))
 once_from I None once = leaf_once I (zeros I 1)
 once_from I (Some solve) once = carried_once I solve.tree once
 
-pub found_from : (I : Instance) (former : Option KeptSolve) (t : Tree) (target : Option ℕ) (handed : Option Plan) (budget : ℕ) (a : Answer) → IsValid I → t ≡ tree_after I (option_map told_solve former) → IfSome former (λ solve. DecidesOnce solve.tree)
+pub found_from : {K : Type 0} (I : Instance) (former : Option (KeptSolve K)) (t : Tree) (target : Option ℕ) (handed : Option Plan) (budget : ℕ) (a : Answer) → IsValid I → t ≡ tree_after I (option_map told_solve former) → IfSome former (λ solve. DecidesOnce solve.tree)
     → IsWithin I (nodes_of t) ⊎ (nodes_of t ≡ 1) → IsWithin I budget → Hands I (former_plan (option_map told_solve former)) target handed → IsAnswerTo I t handed budget a → IsFoundFrom I (option_map told_solve former) budget a
 found_from I former t target handed budget a valid is once few within hand answer =
     let old_once : DecidesOnce t = subst DecidesOnce (sym is) (once_from I former once) in
@@ -110,6 +110,13 @@ found_from I former t target handed budget a valid is once few within hand answe
       once = grown_once I (cost_in I handed) (cost_in I (plan_in a)) t (tree_in a) old_once answer.grown;
     }
 
+-- what is within the limits stays so where it is less
+pub less_within : (I : Instance) (nodes fewer : ℕ) → fewer ≤ nodes → IsWithin I nodes → IsWithin I fewer
+less_within I nodes fewer less within =
+    let size : ℕ = length I.sites + length I.customers in
+    let product : 2 * fewer * size ≤ 2 * nodes * size = mul-le (2 * fewer) size (2 * nodes) size (omega (arith, less)) (omega arith) in
+    omega (arith, product, within)
+
 -- a search can start so, and what it comes to then is found from the former solve
 hands_start : (I : Instance) (former : Option Solved) (s : Start) → IsStartFrom I former s → Hands I (former_plan former) s.cost (where_judged s.plan s.cost)
 hands_start I former s is = hands I (former_plan former) s.plan s.cost (where_judged s.plan s.cost) is.plan_is is.target refl
@@ -117,7 +124,7 @@ hands_start I former s is = hands I (former_plan former) s.plan s.cost (where_ju
 pub start_of : (I : Instance) (former : Option Solved) (s : Start) (budget : ℕ) → IsStartFrom I former s → IsWithin I budget → IsSearchStart I s.tree s.held.items (where_judged s.plan s.cost) budget
 start_of I former s budget is within = start I s.tree s.held.items (former_plan former) s.cost (where_judged s.plan s.cost) budget is.stands is.fit is.few (hands_start I former s is) is.tells within
 
-pub found_of : (I : Instance) (former : Option KeptSolve) (s : Start) (budget : ℕ) (a : Answer) → IsValid I → IsStartFrom I (option_map told_solve former) s → IfSome former (λ solve. DecidesOnce solve.tree) → IsWithin I budget
+pub found_of : {K : Type 0} (I : Instance) (former : Option (KeptSolve K)) (s : Start) (budget : ℕ) (a : Answer) → IsValid I → IsStartFrom I (option_map told_solve former) s → IfSome former (λ solve. DecidesOnce solve.tree) → IsWithin I budget
     → IsAnswerTo I s.tree (where_judged s.plan s.cost) budget a → IsFoundFrom I (option_map told_solve former) budget a
 found_of I former s budget a valid is once within answer =
     found_from I former s.tree s.cost (where_judged s.plan s.cost) budget a valid is.exact once is.few within (hands_start I (option_map told_solve former) s is) answer

@@ -10,6 +10,7 @@ use Rattle.instance_edits.specs.Edits.{Accepts, edited}
 use Rattle.session_lines.specs.declared.fault.SessionFault.{SessionFault}
 use Rattle.session_lines.specs.declared.fault.SessionFault.TheVariants as fault
 use Rattle.session_lines.specs.Lines.{session_line}
+use Rattle.watch_port.specs.Left.{IsBudgetLeft}
 use Rattle.tree_search.specs.Budget.{max_budget}
 use Rattle.tree_search.specs.declared.answer.Answer.{Answer}
 use Rattle.tree_search.specs.Answer.{claim_in, made_in, tree_in}
@@ -34,10 +35,12 @@ IsUndoCause old refusal = ((old.state.edits ≡ []) × (refusal ≡ fault.Nothin
 abbrev pub IsSolveCause : SessionView → ℕ → SessionFault → Type 0
 IsSolveCause old budget refusal = ((max_budget old.instance < budget) × (refusal ≡ fault.BudgetTooLarge)) ⊎ ((budget ≤ max_budget old.instance) × (refusal ≡ fault.NoMemory))
 
--- a search came to an answer, which stands now; the outcome tells its claim, how many nodes it made, and how many its tree has
-pub record IsOutcome (old : SessionView) (budget : ℕ) (outcome : Outcome) (new : SessionView) : Type 0 where
+-- a search came to an answer, which stands now; the outcome tells its claim, how many nodes it made, how many its tree has, and what was left of the given budget between two counts of the
+-- watch's "enough"
+pub record IsOutcome (old : SessionView) (given before after : ℕ) (outcome : Outcome) (new : SessionView) : Type 0 where
   pub answer : Answer
-  pub is_solved : IsSolvedBy old.state old.instance budget answer
+  pub budget_left : IsBudgetLeft given outcome.budget before after
+  pub is_solved : IsSolvedBy old.state old.instance outcome.budget answer
   pub claim : outcome.claim ≡ claim_in old.instance answer
   pub made : outcome.made ≡ made_in answer
   pub nodes : outcome.nodes ≡ nodes_of (tree_in answer)

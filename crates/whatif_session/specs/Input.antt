@@ -1,6 +1,6 @@
 -- The lines of an input that a session steps through, and why no more follow: the input ends, or a byte of it passes a limit, that of a line or that of an input. Where one byte passes
 -- both, it is the line that is too long.
-use Rattle.std.specs.Prelude.{◌≡◌, ℕ, ◌+◌, ◌-◌, ◌≤◌, Bool, true, false, ◌&&◌, List, [], ◌∷◌, length, take, drop, Option, None, Some, IfSome, nat_lt, nat_le, if◌then◌else◌}
+use Rattle.std.specs.Prelude.{◌≡◌, ℕ, ◌+◌, ◌-◌, ◌≤◌, Bool, false, ◌&&◌, List, [], ◌∷◌, length, take, drop, Option, None, Some, IfSome, nat_lt, nat_le, if◌then◌else◌}
 use Rattle.std.specs.List.{slice_split, list_any, before_first}
 use Rattle.number_words.specs.Line.{is_line_feed}
 use Rattle.whatif_session.specs.declared.limits.TheConstants.{MAX_INPUT_BYTES, MAX_LINE_BYTES}

@@ -8,10 +8,10 @@ use Rattle.whatif_session.specs.declared.solves.Solves.TheInside.{Inside}
 use Rattle.whatif_session.specs.State.{Solved, last_of}
 
 -- what is told of a solve
-abbrev pub told_solve : KeptSolve → Solved
+abbrev pub told_solve : {K : Type 0} → KeptSolve K → Solved
 told_solve solve = record { serial = solve.serial; tree = solve.tree; plan = solve.plan }
 
-abbrev pub solves_of : Inside → List Solved
+abbrev pub solves_of : {K : Type 0} → Inside K → List Solved
 solves_of s = map told_solve s.ring.items
 
 -- a solve's serial number is at least 1 and at most this, and no path of its tree decides a thing twice
@@ -28,6 +28,6 @@ AreAmong most (solve ∷ solves) = IsAmong most solve × AreAmong most solves
 abbrev pub AreSolves : List Solved → Type 0
 AreSolves solves = AreAmong (last_of solves) solves
 
-pub record IsRing (s : Inside) : Type 0 where
+pub record IsRing {K : Type 0} (s : Inside K) : Type 0 where
   pub room : s.ring.capacity ≡ KEPT_SOLVES
   pub kept : AreSolves (solves_of s)

@@ -67,8 +67,8 @@ abbrev pub FilesLeft : InputLimits → Stop → List ℕ → List (List ℕ) →
 FilesLeft limits OutOfMemory bytes lines last files = (files ≡ last.files) ⊎ IsCutOff limits bytes lines last files
 FilesLeft limits stop bytes lines last files = files ≡ last.files
 
--- a session on an instance, between two states of the shelf and of the input
-pub record SessionRun (limits : InputLimits) (I : Instance) (shelf_before shelf_after : ShelfState) (input_before input_after : SourceState) (stop : Stop) (replies : List ℕ) : Type 0 where
+-- a session on an instance, between two states of the shelf and of the input, and two counts of the watch's "enough"
+pub record SessionRun (limits : InputLimits) (I : Instance) (shelf_before shelf_after : ShelfState) (input_before input_after : SourceState) (heard_before heard_after : ℕ) (stop : Stop) (replies : List ℕ) : Type 0 where
   pub bytes : List ℕ
   pub given : MayGive input_before.left bytes
   pub lines : List (List ℕ)
@@ -77,9 +77,11 @@ pub record SessionRun (limits : InputLimits) (I : Instance) (shelf_before shelf_
   pub last : Moment
   pub begins : first.session ≡ begun_session I
   pub files_before : first.files ≡ shelf_before.files
+  pub heard_first : first.heard ≡ heard_before
   pub since : NeverFalls shelf_before.writes first.failed_writes
   pub steps : StepsThrough first lines replies last
   pub until : NeverFalls last.failed_writes shelf_after.writes
+  pub heard_last : last.heard ≤ heard_after
   pub files_after : FilesLeft limits stop bytes lines last shelf_after.files
 
 -- the last line of a run has this reply, behind those to the lines before it

@@ -17,7 +17,7 @@ use Rattle.instance_edits.specs.declared.edit.EditFault.{EditFault}
 use Rattle.instance_edits.specs.declared.edit.EditFault.TheVariants as edits
 use Rattle.session_lines.specs.declared.fault.SessionFault.{SessionFault}
 use Rattle.session_lines.specs.declared.fault.SessionFault.TheVariants as faults
-use Rattle.whatif_session.specs.declared.starting.Start.{Start}
+use Rattle.solver_port.specs.declared.start.Start.{Start}
 use Rattle.whatif_session.specs.State.{Solved, found_in}
 use Rattle.whatif_session.specs.Standing.{IsStanding}
 
@@ -37,11 +37,6 @@ abbrev pub IsTarget : Instance → Option Plan → Option ℕ → Type 0
 IsTarget I None target = target ≡ None
 IsTarget I (Some P) None = ¬ IsFeasible I P
 IsTarget I (Some P) (Some cost) = IsFeasible I P × (cost ≡ cost_of I P)
-
--- the plan, where it has a cost
-abbrev pub where_judged : Option Plan → Option ℕ → Option Plan
-where_judged plan None = None
-where_judged plan (Some cost) = plan
 
 -- the tree is that of the former solve
 abbrev pub IsOfFormer : Option Solved → Tree → Type 0

@@ -1,5 +1,5 @@
--- What a session is: the instance that it began with, the edits that it accepted and didn't take back, and its last solves. No inverse of an edit is part of it: the present
--- instance is what the edits make of the first one.
+-- What a session is: the instance that it began with, the edits that it accepted and didn't take back, its last solves, and the limits of the next one. No inverse of an edit is
+-- part of it: the present instance is what the edits make of the first one.
 use Rattle.std.specs.Prelude.{◌≡◌, ◌==◌, ℕ, ◌+◌, ◌-◌, List, [], ◌∷◌, ◌++◌, map, find, length, take, drop, Option, None, Some, option_map, option_and_then, unwrap_or, is_some, Ok, if◌then◌else◌}
 use Rattle.std.specs.List.{last_or}
 use Rattle.location_terms.specs.declared.claim.Claim.{Claim}
@@ -7,9 +7,11 @@ use Rattle.location_terms.specs.Instance.{Instance}
 use Rattle.location_terms.specs.Plan.{Plan}
 use Rattle.location_terms.specs.Tree.{Tree}
 use Rattle.location_terms.specs.Certificate.{Certificate}
+use Rattle.watch_port.specs.declared.limits.Limits.{Limits}
+use Rattle.limit_words.specs.Limits.{no_limits}
 use Rattle.instance_edits.specs.declared.edit.Edit.{Edit}
 use Rattle.instance_edits.specs.Edits.{edits_applied}
-use Rattle.edit_history.specs.History.{HeldEdit}
+use Rattle.edit_history.specs.History.{HeldEdit, History}
 use Rattle.dual_value.specs.Zeros.{zeros}
 use Rattle.branch_tree.specs.Made.{leaf_of}
 use Rattle.leaf_repair.specs.CarriedTree.{carried_tree}
@@ -21,13 +23,15 @@ pub record Solved : Type 0 where
   pub tree : Tree
   pub plan : Option Plan
 
--- edits in their order; the last solves, the last one behind; the serial number of the present tree; and the claim of the last solve, where no edit or undo came since
+-- edits in their order; the last solves, the last one behind; the serial number of the present tree; the claim of the last solve, where no edit or undo came since; and the limits that
+-- are in force for the solves to come
 pub record SessionState : Type 0 where
   pub base : Instance
   pub edits : List HeldEdit
   pub solves : List Solved
   pub present : Option ℕ
   pub standing : Option Claim
+  pub in_force : Limits
 
 -- a session with its present instance
 pub record SessionView : Type 0 where
@@ -36,7 +40,7 @@ pub record SessionView : Type 0 where
 
 -- a session that begins
 abbrev pub begun_session : Instance → SessionState
-begun_session I = record { base = I; edits = []; solves = []; present = None; standing = None }
+begun_session I = record { base = I; edits = []; solves = []; present = None; standing = None; in_force = no_limits }
 
 -- this is the present instance
 abbrev pub IsPresent : SessionState → Instance → Type 0
@@ -45,6 +49,10 @@ IsPresent state I = edits_applied state.base (map (λ held. held.edit) state.edi
 -- a session that begins on this instance, which is the present one
 abbrev pub session_on : Instance → SessionView
 session_on I = record { state = begun_session I; instance = I }
+
+-- a session that begins with the edits of a history, of which nothing is solved, under these limits
+abbrev pub session_with : History → Limits → SessionView
+session_with h limits = record { state = record (begun_session h.base) { edits = h.edits; in_force = limits }; instance = h.instance }
 
 -- the serial number of the last solve, and 0 where there was none
 abbrev pub last_of : List Solved → ℕ
@@ -99,3 +107,7 @@ abbrev pub with_solve : SessionState → Claim → Tree → Option Plan → Sess
 with_solve state claim tree plan =
     let serial = last_serial state + 1 in
     record state { solves = last_solves (state.solves ++ record { serial = serial; tree = tree; plan = plan } ∷ []); present = Some serial; standing = Some claim }
+
+-- once these limits are in force; an answer stands on
+abbrev pub with_limits : SessionState → Limits → SessionState
+with_limits state limits = record state { in_force = limits }

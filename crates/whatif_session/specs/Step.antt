@@ -1,5 +1,5 @@
 -- One step of a session: what a line does to the session and to the files, and its reply. All but a solve is a function of the session, the present instance and the line, with one
--- exception: a file that is to be written may not be, where the count of its failed writes rose.
+-- exception: a file that is to be written may not be, where the count of its failed writes rose. A solve has the budget that the line gives, or less where the watch said "enough".
 use Rattle.std.specs.Prelude.{◌≡◌, ◌⊎◌, ℕ, List, [], length, Option, None, Some, nat_lt, nat_le, Result, Ok, Err, MatchBool, if◌then◌else◌}
 use Rattle.std.specs.List.{last_or}
 use Rattle.shelf_port.specs.Files.{Files, with_file, LeavesPrefix, Rose, NeverFalls}
@@ -13,6 +13,7 @@ use Rattle.location_terms.specs.Certificate.{Certificate}
 use Rattle.instance_edits.specs.declared.edit.Edit.{Edit}
 use Rattle.instance_edits.specs.declared.edit.EditFault.{EditFault}
 use Rattle.instance_edits.specs.Edits.{edited}
+use Rattle.watch_port.specs.Left.{IsBudgetLeft}
 use Rattle.tree_search.specs.Budget.{max_budget, budget_in}
 use Rattle.tree_search.specs.declared.answer.Answer.{Answer}
 use Rattle.tree_search.specs.Answer.{IsAnswerTo, plan_in, tree_in, made_in, claim_in, certificate_in}
@@ -26,17 +27,18 @@ use Rattle.session_lines.specs.declared.answer_form.AnswerForm.TheVariants as fo
 use Rattle.session_lines.specs.declared.fault.SessionFault.{SessionFault}
 use Rattle.session_lines.specs.declared.fault.SessionFault.TheVariants as fault
 use Rattle.whatif_session.specs.declared.limits.TheConstants.{MAX_EDITS}
-use Rattle.session_lines.specs.Lines.{SessionLine, Blank, TakeBack, Quit, Show, Change, Solve, Save, Cert, session_line}
+use Rattle.session_lines.specs.Lines.{SessionLine, Blank, TakeBack, Quit, Show, Change, Solve, Limit, Save, Cert, session_line}
 use Rattle.whatif_session.specs.Standing.{IsStanding}
 use Rattle.edit_history.specs.History.{HeldEdit}
-use Rattle.whatif_session.specs.State.{SessionState, IsPresent, present_plan, starting_tree, standing_answer, with_edit, without_edit, with_solve}
+use Rattle.whatif_session.specs.State.{SessionState, IsPresent, present_plan, starting_tree, standing_answer, with_edit, without_edit, with_solve, with_limits}
 use Rattle.session_lines.specs.Replies.{refusal_text, ok_text, edit_text, solve_text}
 
--- a session at a moment of its run, with the files, where they are told, and how many writes of each name have failed
+-- a session at a moment of its run, with the files, where they are told, how many writes of each name have failed, and how often the watch said "enough"
 pub record Moment : Type 0 where
   pub session : SessionState
   pub files : Option Files
   pub failed_writes : List ℕ → ℕ
+  pub heard : ℕ
 
 -- Lines that are answered by a function.
 
@@ -57,11 +59,12 @@ abbrev pub told_undo : SessionState → Option HeldEdit → Told
 told_undo state None = Err fault.NothingToUndo
 told_undo state (Some held) = Ok (ok_text, without_edit state held)
 
--- the reply is the one that is told, and so is the session that is left; no file is changed
+-- the reply is the one that is told, and so is the session that is left; no file is changed, and the watch says nothing
 pub record Replies (text : List ℕ) (state : SessionState) (old : Moment) (reply : List ℕ) (new : Moment) : Type 0 where
   pub reply_is : reply ≡ text
   pub left : new.session ≡ state
   pub files : new.files ≡ old.files
+  pub unheard : new.heard ≡ old.heard
 
 -- a refusal leaves the session as it is
 abbrev pub IsReplied : Told → Moment → List ℕ → Moment → Type 0
@@ -81,9 +84,9 @@ pub record IsLeftUnwritten (name text : List ℕ) (old : Moment) (reply : List �
   pub reply_is : reply ≡ refusal_text fault.WriteFailed
   pub files : LeavesPrefix old.files new.files name text
 
--- the text is to be written to the file of this name, and the session stays
+-- the text is to be written to the file of this name; the session stays, and the watch says nothing
 abbrev pub Writes : List ℕ → List ℕ → Moment → List ℕ → Moment → Type 0
-Writes name text old reply new = (new.session ≡ old.session) × (IsWritten name text old reply new ⊎ IsLeftUnwritten name text old reply new)
+Writes name text old reply new = (new.session ≡ old.session) × (new.heard ≡ old.heard) × (IsWritten name text old reply new ⊎ IsLeftUnwritten name text old reply new)
 
 -- The standing answer.
 
@@ -117,13 +120,18 @@ pub record IsSolvedBy (old : SessionState) (I : Instance) (budget : ℕ) (answer
 abbrev pub solved : SessionState → Instance → Answer → SessionState
 solved old I answer = with_solve old (claim_in I answer) (tree_in answer) (plan_in answer)
 
-pub record Solves (I : Instance) (budget : ℕ) (old : Moment) (reply : List ℕ) (new : Moment) : Type 0 where
+-- So much was left of the given budget, all of it but where the watch said "enough"; the search came to its answer within that, and that is printed.
+pub record Solves (I : Instance) (given : ℕ) (old : Moment) (reply : List ℕ) (new : Moment) : Type 0 where
   pub answer : Answer
+  pub budget : ℕ
+  pub budget_left : IsBudgetLeft given budget old.heard new.heard
   pub is_solved : IsSolvedBy old.session I budget answer
-  pub replies : Replies (solve_text (claim_in I answer) (made_in answer) (nodes_of (tree_in answer)) budget) (solved old.session I answer) old reply new
+  pub reply_is : reply ≡ solve_text (claim_in I answer) (made_in answer) (nodes_of (tree_in answer)) budget
+  pub left : new.session ≡ solved old.session I answer
+  pub files : new.files ≡ old.files
 
 abbrev pub SolvesWithin : Instance → ℕ → Moment → List ℕ → Moment → Type 0
-SolvesWithin I budget old reply new = MatchBool (nat_lt (max_budget I) budget) (IsReplied (Err fault.BudgetTooLarge) old reply new) (Solves I budget old reply new)
+SolvesWithin I given old reply new = MatchBool (nat_lt (max_budget I) given) (IsReplied (Err fault.BudgetTooLarge) old reply new) (Solves I given old reply new)
 
 -- The step.
 
@@ -135,13 +143,14 @@ Does I (Some Quit) old reply new = Replies [] old.session old reply new
 Does I (Some (Change e)) old reply new = IsReplied (told_change old.session I e) old reply new
 Does I (Some TakeBack) old reply new = IsReplied (told_undo old.session (last_or None old.session.edits)) old reply new
 Does I (Some (Solve given)) old reply new = SolvesWithin I (budget_in I given) old reply new
+Does I (Some (Limit limits)) old reply new = Replies ok_text (with_limits old.session limits) old reply new
 Does I (Some (Show form)) old reply new = ShowsAnswer I form (standing_answer old.session) old reply new
 Does I (Some (Save name)) old reply new = Writes name (own_text I) old reply new
 Does I (Some (Cert name)) old reply new = WritesAnswer name I (standing_answer old.session) old reply new
 
--- a session at a moment, over a shelf in this state
-abbrev pub moment_at : SessionState → ShelfState → Moment
-moment_at session shelf = record { session = session; files = shelf.files; failed_writes = shelf.writes }
+-- a session at a moment, over a shelf in this state, with a watch that said "enough" so often
+abbrev pub moment_at : SessionState → ShelfState → ℕ → Moment
+moment_at session shelf heard = record { session = session; files = shelf.files; failed_writes = shelf.writes; heard = heard }
 
 -- a line takes the session from one moment to the next, with this reply
 pub record SessionStep (old : Moment) (line reply : List ℕ) (new : Moment) : Type 0 where

@@ -129,11 +129,11 @@ impl KeptBook {
 
 // Changes the instance of a history by an edit, which it holds with the serial number of the present tree, and the
 // book follows. Where the edit is refused, or memory runs out, all but room is as before; memory is looked at last.
-pub(crate) fn led_on(
+pub(crate) fn led_on<K: Drop>(
     alloc: Global,
     history: &mut EditedInstance,
     book: &mut KeptBook,
-    solves: &Solves,
+    solves: &Solves<K>,
     present: Option<u64>,
     edit: Edit,
 ) -> Result<(), EditFault>
@@ -159,10 +159,10 @@ pub(crate) fn led_on(
 
 // Takes the last edit of a history back, and gives the serial number of the tree that is present then: the book
 // follows where that is the last solve's, and else it goes. Where memory runs out, all but room is as before.
-pub(crate) fn led_back(
+pub(crate) fn led_back<K: Drop>(
     history: &mut EditedInstance,
     book: &mut KeptBook,
-    solves: &Solves,
+    solves: &Solves<K>,
     present: Option<u64>,
 ) -> Result<Option<u64>, NoMemory>
     requires some { 0 < length history.old.edits }

@@ -1,5 +1,6 @@
 //! Sessions: an instance that is edited and solved line by line, with undo, where the tree that showed
-//! one answer is carried over to the next question. The definitions are in `specs/`.
+//! one answer is carried over to the next question. What solves the instance is handed to it, and so is a watch over
+//! each solve. The definitions are in `specs/`.
 #![tactic(auto)]
 
 mod kept_book;
@@ -21,4 +22,6 @@ pub use limits::{KEPT_SOLVES, MAX_EDITS, MAX_INPUT_BYTES, MAX_LINE_BYTES};
 pub use reply::Reply;
 pub use session::Session;
 pub use session_lines::{Came, SessionFault, read_edit};
+pub use solver_port::Solver;
 pub use solving::Outcome;
+pub use watch_port::{Limits, Watch};

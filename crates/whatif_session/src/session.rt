@@ -1,5 +1,5 @@
 //! A session and its calls.
-ghost use Rattle.std.specs.Prelude.{◌≡◌, ◌<◌, ◌≤◌, ◌↔◌, None, Ok, IfOk, IfErr, OnOk, OnErr, length};
+ghost use Rattle.std.specs.Prelude.{◌≡◌, ◌<◌, ◌≤◌, ◌↔◌, All, None, Ok, IfOk, IfErr, OnOk, OnErr, length};
 ghost use Rattle.std.specs.List.{last_or};
 ghost use Rattle.std.specs.Option.{option_copied};
 ghost use Rattle.instance_edits.specs.Edits.{HasAmounts, edited};
@@ -9,31 +9,35 @@ ghost use Rattle.whatif_session.specs.Search.{fault_from};
 
 use crate::kept_book::{KeptBook, led_back, led_on};
 use crate::solves::Solves;
-use crate::{Edit, EditFault, Instance, MAX_EDITS, NoMemory, SessionFault};
+use crate::{Edit, EditFault, Instance, Limits, MAX_EDITS, NoMemory, SessionFault, Solver};
 use edit_history::EditedInstance;
 use instance_store::{CustId, SiteId};
 use leaf_book::LeafBook;
+use limit_words::no_limits;
 use location_terms::Claim;
 use session_lines::Came;
 use std::alloc::Global;
 use std::marker::Model;
 
-/// An instance that is edited and solved, again and again. It holds the edits with what takes them back, and
-/// the trees and plans of its last solves.
+/// An instance that is edited and solved by a solver, again and again. It holds the edits with what takes them
+/// back, and the trees and plans of its last solves.
 #[derive(Drop)]
-pub struct Session {
+pub struct Session<S: Solver + Drop> {
     pub(crate) alloc: Global,
+    pub(crate) solver: S,
     pub(crate) edited: EditedInstance,
-    pub(crate) solves: Solves,
+    pub(crate) solves: Solves<S::Kept>,
     // The serial number of the present tree.
     pub(crate) present: Option<u64>,
     // The book of the present tree, where it is that of the last solve.
     pub(crate) book: KeptBook,
     // The claim of the last solve, where no edit or undo came since.
     pub(crate) standing: Option<Claim>,
+    // The limits of the solves to come.
+    pub(crate) in_force: Limits,
 }
 
-impl Model for Session {
+impl<S: Solver + Drop> Model for Session<S> {
     ghost use Rattle.whatif_session.specs.State.{SessionView};
     ghost use Rattle.whatif_session.specs.Codes.{session_view_code};
 
@@ -48,25 +52,27 @@ impl Model for Session {
     ghost invariant = { IsSound };
 }
 
-impl Session {
-    ghost use Rattle.whatif_session.specs.State.{session_on, last_serial, with_edit, IsPresent};
+impl<S: Solver + Drop> Session<S> {
+    ghost use Rattle.whatif_session.specs.State.{session_on, session_with, last_serial, with_edit, with_limits, IsPresent};
     ghost use Rattle.whatif_session.specs.Booked.{last_tree};
     ghost use Rattle.whatif_session.specs.Step.{told_undo};
     ghost use Rattle.whatif_session.specs.Calls.{IsEditCause, IsUndoCause};
 
-    /// A session that begins on this instance. It fails only where memory runs out.
-    pub fn start(alloc: Global, inst: Instance) -> Result<Session, NoMemory>
+    /// A session that begins on this instance, with no limits to its solves. It fails only where memory runs out.
+    pub fn start(alloc: Global, inst: Instance, solver: S) -> Result<Self, NoMemory>
         ensures { IfOk result (λ s. s ≡ session_on inst) }
     {
         let solves = Solves::none(alloc)?;
         let edited = EditedInstance::begun(alloc, inst)?;
         Ok(Session {
             alloc,
+            solver,
             edited,
             solves,
             present: None,
             book: KeptBook { book: None },
             standing: None,
+            in_force: no_limits(),
         })
     }
 
@@ -166,6 +172,27 @@ impl Session {
         // The edits that are left lead to the instance.
         let _led = self.edited.instance();
         Ok(())
+    }
+
+    /// Puts these limits in force, for the solves behind it. It is no edit: an answer that stands does so on.
+    pub fn limit(&mut self, limits: Limits)
+        ensures state { self.new.state ≡ with_limits self.old.state limits }
+        ensures instance { self.new.instance ≡ self.old.instance }
+    {
+        self.in_force = limits;
+    }
+
+    /// Begins anew with an instance and the edits that led to it, of which nothing is solved. What solves it stays,
+    /// and so do the limits in force. It takes no memory.
+    pub fn begin_with(&mut self, edited: EditedInstance)
+        requires { All (λ held. held.serial ≡ None) edited.edits }
+        ensures { self.new ≡ session_with edited self.old.state.in_force }
+    {
+        self.edited = edited;
+        self.solves.forget();
+        self.present = None;
+        self.book = KeptBook { book: None };
+        self.standing = None;
     }
 
     // Where memory comes from.

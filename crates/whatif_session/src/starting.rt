@@ -18,26 +18,16 @@ use branch_tree::Tree;
 use lane_order::LaneOrder;
 use leaf_repair::{carry, held};
 use plan_meaning::{Plan, judge};
-use search_strategy::Kept;
+use solver_port::Start;
 use std::alloc::Global;
-
-// From what a search starts: a tree on the instance; of each of its leaves, whether it closes; a plan, also where
-// it isn't feasible; and what that costs in millionths, where it is.
-#[derive(Drop)]
-pub(crate) struct Start {
-    pub(crate) tree: Tree,
-    pub(crate) held: Vec<bool>,
-    pub(crate) plan: Option<Plan>,
-    pub(crate) cost: Option<u64>,
-}
 
 // The start from the tree and the plan of a former solve, or from the root leaf where there is none. The book is
 // that of its tree, where `last` has the tree. It fails only where memory runs out.
-pub(crate) fn start_from(
+pub(crate) fn start_from<K>(
     alloc: Global,
     inst: &Instance,
     order: &LaneOrder,
-    former: Option<&KeptSolve>,
+    former: Option<&KeptSolve<K>>,
     book: &KeptBook,
     last: Option<&Tree>,
 ) -> Result<Start, NoMemory>
@@ -81,10 +71,10 @@ fn held_leaves(
 }
 
 // The tree of the former solve, carried over to the instance, or the root leaf of zeros.
-fn starting_tree(
+fn starting_tree<K>(
     alloc: Global,
     inst: &Instance,
-    former: Option<&KeptSolve>,
+    former: Option<&KeptSolve<K>>,
 ) -> Result<Tree, NoMemory>
     ensures exact { IfOk result (λ t. t ≡ tree_after inst.now (option_map told_solve (option_copied former.entry))) }
     ensures stands { IfOk result (λ t. StandsOn t inst.now) }
@@ -98,10 +88,10 @@ fn starting_tree(
 }
 
 // The plan of the former solve, carried over to the instance.
-fn carried_plan(
+fn carried_plan<K>(
     alloc: Global,
     inst: &Instance,
-    former: Option<&KeptSolve>,
+    former: Option<&KeptSolve<K>>,
 ) -> Result<Option<Plan>, NoMemory>
     ensures { IfOk result (λ plan. plan ≡ carried_from inst.now (former_plan (option_map told_solve (option_copied former.entry)))) }
 {
@@ -112,7 +102,7 @@ fn carried_plan(
     Ok(Some(carried))
 }
 
-fn plan_of(former: Option<&KeptSolve>) -> Option<&Plan>
+fn plan_of<K>(former: Option<&KeptSolve<K>>) -> Option<&Plan>
     ensures { option_copied result ≡ former_plan (option_map told_solve (option_copied former.entry)) }
 {
     match former {
@@ -132,7 +122,7 @@ fn cost_of(inst: &Instance, plan: Option<&Plan>) -> Option<u64>
 }
 
 // What the former solve left.
-pub(crate) fn left_by(former: Option<&KeptSolve>) -> Option<&Kept> {
+pub(crate) fn left_by<K>(former: Option<&KeptSolve<K>>) -> Option<&K> {
     match former {
         Some(solve) => Some(&solve.kept),
         None => None,

@@ -1,21 +1,21 @@
 //! One line of a session.
-ghost use Rattle.std.specs.Prelude.{◌≡◌, ◌⊎◌, ◌+◌, ◌-◌, ◌^◌, ◌<◌, ◌≤◌, Some, IfOk, IfSome, OnOk, OnErr, option_map};
+ghost use Rattle.std.specs.Prelude.{◌≡◌, ◌⊎◌, ℕ, ◌+◌, ◌-◌, ◌^◌, ◌<◌, ◌≤◌, Some, IfOk, IfSome, OnOk, OnErr, option_map};
 ghost use Rattle.std.specs.Option.{option_copied};
 ghost use Rattle.shelf_port.specs.Files.{NeverFalls, LeavesPrefix};
 ghost use Rattle.shelf_port.specs.Ports.{shelf_state};
 ghost use Rattle.location_terms.specs.Plan.{IsFeasible};
 ghost use Rattle.instance_edits.specs.Edits.{HasAmounts};
 ghost use Rattle.session_lines.specs.Asked.{line_of_request};
-ghost use Rattle.session_lines.specs.Lines.{Change, TakeBack, Show, Solve, Save, Cert, HasLineAmounts, quits, session_line};
+ghost use Rattle.session_lines.specs.Lines.{Change, TakeBack, Show, Solve, Limit, Save, Cert, HasLineAmounts, quits, session_line};
 ghost use Rattle.whatif_session.specs.State.{last_serial, IsPresent};
 ghost use Rattle.whatif_session.specs.Step.{SessionStep, answer_text, moment_at};
 ghost use Rattle.whatif_session.specs.Run.{due_file};
 ghost use Rattle.whatif_session.specs.Calls.{IsLeftOver, IsDueLeft};
-ghost use Rattle.whatif_session.specs.Done.{HasDone, HasDoneAlone, IsFollowed};
+ghost use Rattle.whatif_session.specs.Done.{HasDone, HasDoneWatched, HasDoneAlone, IsFollowed};
 
 use crate::session::came_by;
 use crate::solving::outcome_of;
-use crate::{Edit, Instance, NoMemory, Reply, Session, SessionFault};
+use crate::{Edit, Instance, Limits, NoMemory, Reply, Session, SessionFault, Solver, Watch};
 use location_terms::Claim;
 use plan_meaning::Plan;
 use report::{json_text, plan_text, site_table};
@@ -24,17 +24,22 @@ use shelf_port::Shelf;
 use std::alloc::Global;
 use tree_search::budget_in;
 
-impl Session {
+impl<S: Solver + Drop> Session<S> {
     /// Reads a line and does what it asks for. A refusal is a reply, and changes nothing.
     ///
     /// It fails only where memory runs out. The session is then as before, and the file that was to be written
     /// holds a prefix of its text, if it changed.
-    pub fn step<H: Shelf>(&mut self, line: &[u8], shelf: &mut H) -> Result<Reply, NoMemory>
+    pub fn step<H: Shelf, W: Watch>(
+        &mut self,
+        line: &[u8],
+        shelf: &mut H,
+        watch: &mut W,
+    ) -> Result<Reply, NoMemory>
         requires { last_serial self.old.state < 2 ^ 64 - 1 }
         ensures does { IfOk result (λ reply. SessionStep
-            (moment_at self.old.state (shelf_state (H.files shelf.old) (H.read_faults shelf.old) (H.write_faults shelf.old)))
+            (moment_at self.old.state (shelf_state (H.files shelf.old) (H.read_faults shelf.old) (H.write_faults shelf.old)) (W.enoughs watch.old))
             line.now reply.text
-            (moment_at self.new.state (shelf_state (H.files shelf.new) (H.read_faults shelf.new) (H.write_faults shelf.new)))) }
+            (moment_at self.new.state (shelf_state (H.files shelf.new) (H.read_faults shelf.new) (H.write_faults shelf.new)) (W.enoughs watch.new))) }
         ensures ended { IfOk result (λ reply. reply.ended ≡ quits line.now) }
         ensures serial { OnOk result (last_serial self.new.state ≤ last_serial self.old.state + 1) }
         ensures kept { OnErr result (self.new ≡ self.old) }
@@ -43,46 +48,54 @@ impl Session {
         ensures led { IsPresent self.new.state self.new.instance }
         ensures reads { NeverFalls (H.read_faults shelf.old) (H.read_faults shelf.new) }
         ensures writes { NeverFalls (H.write_faults shelf.old) (H.write_faults shelf.new) }
+        ensures heard { W.enoughs watch.old ≤ W.enoughs watch.new }
     {
         let _present = self.instance();
         let request = request_of(self.memory(), line)?;
-        let reply = self.replied(request, shelf);
+        let reply = self.replied(request, shelf, watch);
         let _led = self.instance();
         reply
     }
 
     // Does what a line asks for, if its words are those of a command.
-    fn replied<H: Shelf>(
+    fn replied<H: Shelf, W: Watch>(
         &mut self,
         request: Option<Request<'_>>,
         shelf: &mut H,
+        watch: &mut W,
     ) -> Result<Reply, NoMemory>
         requires few { last_serial self.old.state < 2 ^ 64 - 1 }
         requires amounts { IfSome request (λ x. HasLineAmounts (line_of_request x)) }
         ensures { IsFollowed (option_map line_of_request request.entry)
-            self.old (shelf_state (H.files shelf.old) (H.read_faults shelf.old) (H.write_faults shelf.old)) result
-            self.new (shelf_state (H.files shelf.new) (H.read_faults shelf.new) (H.write_faults shelf.new)) }
+            self.old (shelf_state (H.files shelf.old) (H.read_faults shelf.old) (H.write_faults shelf.old)) (W.enoughs watch.old) result
+            self.new (shelf_state (H.files shelf.new) (H.read_faults shelf.new) (H.write_faults shelf.new)) (W.enoughs watch.new) }
     {
         match request {
-            Some(request) => self.follow(request, shelf),
+            Some(request) => self.follow(request, shelf, watch),
             None => Reply::refusal(self.memory(), SessionFault::BadCommand),
         }
     }
 
     // Does what a command asks for.
-    fn follow<H: Shelf>(&mut self, request: Request<'_>, shelf: &mut H) -> Result<Reply, NoMemory>
+    fn follow<H: Shelf, W: Watch>(
+        &mut self,
+        request: Request<'_>,
+        shelf: &mut H,
+        watch: &mut W,
+    ) -> Result<Reply, NoMemory>
         requires few { last_serial self.old.state < 2 ^ 64 - 1 }
         requires amounts { HasLineAmounts (line_of_request request) }
         ensures { IsFollowed (Some (line_of_request request.entry))
-            self.old (shelf_state (H.files shelf.old) (H.read_faults shelf.old) (H.write_faults shelf.old)) result
-            self.new (shelf_state (H.files shelf.new) (H.read_faults shelf.new) (H.write_faults shelf.new)) }
+            self.old (shelf_state (H.files shelf.old) (H.read_faults shelf.old) (H.write_faults shelf.old)) (W.enoughs watch.old) result
+            self.new (shelf_state (H.files shelf.new) (H.read_faults shelf.new) (H.write_faults shelf.new)) (W.enoughs watch.new) }
     {
         match request {
             Request::Blank => Ok(Reply::silent(self.memory(), false)),
             Request::Quit => Ok(Reply::silent(self.memory(), true)),
             Request::Change(edit) => self.step_edit(edit),
             Request::TakeBack => self.step_undo(),
-            Request::Solve(given) => self.step_solve(given),
+            Request::Solve(given) => self.step_solve(given, watch),
+            Request::Limit(limits) => self.step_limit(limits),
             Request::Show(form) => self.step_show(form),
             Request::Save(name) => self.step_save(shelf, name),
             Request::Cert(name) => self.step_cert(shelf, name),
@@ -113,25 +126,35 @@ impl Session {
         }
     }
 
-    fn step_solve(&mut self, given: Option<u32>) -> Result<Reply, NoMemory>
+    fn step_solve<W: Watch>(&mut self, given: Option<u32>, watch: &mut W) -> Result<Reply, NoMemory>
         requires { last_serial self.old.state < 2 ^ 64 - 1 }
-        ensures done { IfOk result (λ reply. HasDoneAlone (Some (Solve given)) self.old reply self.new) }
+        ensures done { IfOk result (λ reply. HasDoneWatched (Some (Solve given)) self.old (W.enoughs watch.old) reply self.new (W.enoughs watch.new)) }
         ensures kept { OnErr result (self.new ≡ self.old) }
+        ensures heard { W.enoughs watch.old ≤ W.enoughs watch.new }
     {
         let Some(budget) = budget_in(self.instance(), given) else {
             return Reply::refusal(self.memory(), SessionFault::BudgetTooLarge);
         };
-        let found = self.search(budget)?;
-        let outcome = outcome_of(self.instance(), &found.answer);
+        let found = self.search(budget, watch)?;
+        let outcome = outcome_of(self.instance(), &found.solved);
         // The text is made before the session takes the answer in, so that nothing fails behind it.
         let text = solve_text(
             self.memory(),
             outcome.claim,
             outcome.made,
             outcome.nodes,
-            budget,
+            outcome.budget,
         )?;
         self.take_in(found, outcome.claim);
+        Ok(Reply::of(text))
+    }
+
+    fn step_limit(&mut self, limits: Limits) -> Result<Reply, NoMemory>
+        ensures done { IfOk result (λ reply. HasDoneAlone (Some (Limit limits)) self.old reply self.new) }
+        ensures kept { OnErr result (self.new ≡ self.old) }
+    {
+        let text = ok_text(self.memory())?;
+        self.limit(limits);
         Ok(Reply::of(text))
     }
 
@@ -146,9 +169,9 @@ impl Session {
     }
 
     fn step_save<H: Shelf>(&self, shelf: &mut H, name: &str) -> Result<Reply, NoMemory>
-        ensures done { IfOk result (λ reply. HasDone (Some (Save name.now))
-            self.now (shelf_state (H.files shelf.old) (H.read_faults shelf.old) (H.write_faults shelf.old)) reply
-            self.now (shelf_state (H.files shelf.new) (H.read_faults shelf.new) (H.write_faults shelf.new))) }
+        ensures done { (heard : ℕ) → IfOk result (λ reply. HasDone (Some (Save name.now))
+            self.now (shelf_state (H.files shelf.old) (H.read_faults shelf.old) (H.write_faults shelf.old)) heard reply
+            self.now (shelf_state (H.files shelf.new) (H.read_faults shelf.new) (H.write_faults shelf.new)) heard) }
         ensures left { OnErr result (IsDueLeft (due_file self.now.instance self.now.state (Some (Save name.now))) (H.files shelf.old) (H.files shelf.new)) }
         ensures reads { NeverFalls (H.read_faults shelf.old) (H.read_faults shelf.new) }
         ensures writes { NeverFalls (H.write_faults shelf.old) (H.write_faults shelf.new) }
@@ -161,9 +184,9 @@ impl Session {
     }
 
     fn step_cert<H: Shelf>(&self, shelf: &mut H, name: &str) -> Result<Reply, NoMemory>
-        ensures done { IfOk result (λ reply. HasDone (Some (Cert name.now))
-            self.now (shelf_state (H.files shelf.old) (H.read_faults shelf.old) (H.write_faults shelf.old)) reply
-            self.now (shelf_state (H.files shelf.new) (H.read_faults shelf.new) (H.write_faults shelf.new))) }
+        ensures done { (heard : ℕ) → IfOk result (λ reply. HasDone (Some (Cert name.now))
+            self.now (shelf_state (H.files shelf.old) (H.read_faults shelf.old) (H.write_faults shelf.old)) heard reply
+            self.now (shelf_state (H.files shelf.new) (H.read_faults shelf.new) (H.write_faults shelf.new)) heard) }
         ensures left { OnErr result (IsDueLeft (due_file self.now.instance self.now.state (Some (Cert name.now))) (H.files shelf.old) (H.files shelf.new)) }
         ensures reads { NeverFalls (H.read_faults shelf.old) (H.read_faults shelf.new) }
         ensures writes { NeverFalls (H.write_faults shelf.old) (H.write_faults shelf.new) }

@@ -5,11 +5,11 @@ ghost use Rattle.instance_text.specs.OwnText.{own_text};
 ghost use Rattle.whatif_session.specs.State.{standing_answer};
 ghost use Rattle.whatif_session.specs.Calls.{IsSaveCause, IsCertified, IsCertLeft, IsCertCause};
 
-use crate::{Session, SessionFault};
+use crate::{Session, SessionFault, Solver};
 use certificate_text::write_cert;
 use shelf_port::{PutFault, Shelf, put_whole};
 
-impl Session {
+impl<S: Solver + Drop> Session<S> {
     /// Writes the present instance to the named file, in the own form.
     ///
     /// `WriteFailed` comes where a write failed, `NoMemory` where there was none. After either the file is as

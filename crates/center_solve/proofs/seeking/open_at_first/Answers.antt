@@ -2,4 +2,4 @@ use Rattle.center_solve.proofs.Answered.{first_open}
 use Rattle.center_solve.proofs.seeking.open_at_first.Goals as goal
 
 pub returns : goal.returns
-returns c budget open_probe = first_open c.args.inst.now c.requires.valid c.args.at c.requires.just budget c.at_nothing-reach.result.cost c.in_ok-tree.tree c.args.probe c.at_nothing-reach.ensures.nothing c.in_ok-tree.ensures.shows c.in_ok-tree.ensures.one open_probe
+returns c given left open_probe = first_open c.args.inst.now c.requires.valid c.args.at c.requires.just given left c.at_nothing-reach.result.cost c.in_ok-tree.tree c.args.probe c.at_nothing-reach.ensures.nothing c.in_ok-tree.ensures.shows c.in_ok-tree.ensures.one open_probe

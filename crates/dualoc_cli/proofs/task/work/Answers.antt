@@ -32,13 +32,13 @@ returns-in-Session-clause-keeps g c = session_kept (asked_job c.args.job) _ _ _ 
 pub returns-in-Curve-clause-replied : goal.returns-in-Curve-clause-replied
 returns-in-Curve-clause-replied g c =
     let asks = c.in-Curve.asks in
-    curve_replied (asked_job c.args.job) _ _ _ asks.first asks.last asks.given (ap asked_job c.in-Curve.is) refl refl c.draw_curve.result c.draw_curve.ensures.replied
+    curve_replied (asked_job c.args.job) _ _ _ asks.first asks.last asks.effort (ap asked_job c.in-Curve.is) refl refl c.draw_curve.result c.draw_curve.ensures.replied
 
 pub returns-in-Curve-clause-halted : goal.returns-in-Curve-clause-halted
 returns-in-Curve-clause-halted g c =
     let asks = c.in-Curve.asks in
-    curve_halted (asked_job c.args.job) _ _ _ asks.first asks.last asks.given (ap asked_job c.in-Curve.is) refl refl c.draw_curve.result c.draw_curve.ensures.halted
+    curve_halted (asked_job c.args.job) _ _ _ asks.first asks.last asks.effort (ap asked_job c.in-Curve.is) refl refl c.draw_curve.result c.draw_curve.ensures.halted
 
 pub returns-in-Curve-clause-keeps : goal.returns-in-Curve-clause-keeps
 returns-in-Curve-clause-keeps g c =
-    let asks = c.in-Curve.asks in curve_kept (asked_job c.args.job) _ _ _ asks.first asks.last asks.given (ap asked_job c.in-Curve.is) refl refl
+    let asks = c.in-Curve.asks in curve_kept (asked_job c.args.job) _ _ _ asks.first asks.last asks.effort (ap asked_job c.in-Curve.is) refl refl

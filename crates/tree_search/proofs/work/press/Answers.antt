@@ -38,3 +38,16 @@ returns-clause-pressed g c =
     let offered : IsNoWorse I mid.plan (packed I path hint) = subst (IsNoWorse I mid.plan) c.in_ok-plan.ensures.exact (subst (λ (J : Instance). IsNoWorse J mid.plan c.in_ok-plan.plan) c.requires.instance c.offer.ensures.offered) in
     let sought : IsSoughtAt I mid.plan path plain = offered_sought I path plain mid.plan hint is offered in
     inr (sought_still I path new.plan mid.plan (improved_in I mid new same c.in_ok-found.ensures.on.plan) plain sought)
+
+pub returns-then-is_over-clause-on : goal.returns-then-is_over-clause-on
+returns-then-is_over-clause-on g c = goes_on_plan c.args.boxed.now c.args.search.now c.offer.new.self c.requires c.offer.ensures.improves c.offer.ensures.leaf
+
+pub returns-then-is_over-clause-pressed : goal.returns-then-is_over-clause-pressed
+returns-then-is_over-clause-pressed g c =
+    let I = c.args.boxed.now.instance in
+    let path = c.args.boxed.now.path in
+    let mid = c.offer.new.self.best in
+    let hint = c.plain_tight_sites.result.now in
+    let is : hint ≡ tight_sites I path c.args.search.now.leaf.plain = c.plain_tight_sites.ensures ∙ ap (λ (s : Searching). s.leaf.hint) c.search.view_is ∙ c.requires.making.2.hint in
+    let offered : IsNoWorse I mid.plan (packed I path hint) = subst (IsNoWorse I mid.plan) c.in_ok-plan.ensures.exact (subst (λ (J : Instance). IsNoWorse J mid.plan c.in_ok-plan.plan) c.requires.instance c.offer.ensures.offered) in
+    inr (offered_sought I path c.args.search.now.leaf.plain mid.plan hint is offered)

@@ -3,6 +3,7 @@ use Rattle.std.proofs.lemmas.Int.{ints}
 use Rattle.tree_search.specs.Best.{Best, Improves}
 use Rattle.tree_search.specs.Searching.{Searching}
 use Rattle.tree_search.proofs.Going.{order_in, maker_in}
+use Rattle.tree_search.proofs.Spends.{heard_same, heard_again}
 use Rattle.tree_search.proofs.work.rayless.Goals as goal
 
 pub enter-requires-clause-order : goal.enter-requires-clause-order
@@ -23,3 +24,6 @@ returns-clause-plan g c = subst (λ (x : Best). Improves x c.made.new.search.bes
 
 pub returns-clause-worked : goal.returns-clause-worked
 returns-clause-worked g c = c.in_ok-worked.ensures.worked c.args.replaced.now c.in_ok-enter.ensures.making
+
+pub returns-clause-heard : goal.returns-clause-heard
+returns-clause-heard g c = heard_again _ _ _ _ _ _ (heard_same _ _ _ c.note.ensures) c.in_ok-worked.ensures.heard

@@ -8,7 +8,7 @@ use Rattle.whatif_session.proofs.Booked.{turn_back, tree_stays, stays_by, behind
 use Rattle.whatif_session.proofs.kept_book.led_back.Goals as goal
 
 pub follow_back-requires-clause-book : goal.follow_back-requires-clause-book
-follow_back-requires-clause-book c =
+follow_back-requires-clause-book g c =
     let h : History = c.args.history.now in
     let k : History = c.take_back.new.self in
     let solves = c.args.solves.now in
@@ -23,7 +23,7 @@ follow_back-requires-clause-book c =
     (leads_left h k held ready.back ready.before taken.1 c.in_ok-serial.ensures.base c.instance.ensures.leads ∙ sym c.instance.ensures.same) c.make_room_back.ensures.book
 
 pub returns-clause-booked : goal.returns-clause-booked
-returns-clause-booked c =
+returns-clause-booked g c =
     let h : History = c.args.history.now in
     let k : History = c.take_back.new.self in
     let solves = c.args.solves.now in

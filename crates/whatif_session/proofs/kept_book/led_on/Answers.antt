@@ -8,7 +8,7 @@ use Rattle.whatif_session.proofs.Booked.{booked_on}
 use Rattle.whatif_session.proofs.kept_book.led_on.Goals as goal
 
 pub follow-requires-clause-book : goal.follow-requires-clause-book
-follow-requires-clause-book c =
+follow-requires-clause-book g c =
     let h = c.args.history.now in
     record {
       I = h.instance;
@@ -20,6 +20,6 @@ follow-requires-clause-book c =
     }
 
 pub returns-clause-booked : goal.returns-clause-booked
-returns-clause-booked c =
+returns-clause-booked g c =
     booked_on c.args.book.now.book c.follow.new.self.book c.args.history.now c.change.new.self c.args.solves.now c.args.present c.args.edit (option_copied c.last_tree-last.result) c.requires.booked c.in_ok-change.ensures.edits
     c.last_tree-last.ensures.tree c.follow.ensures

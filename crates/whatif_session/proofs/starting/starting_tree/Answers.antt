@@ -8,5 +8,5 @@ use Rattle.whatif_session.proofs.Starts.{if_ok, root_fits}
 use Rattle.whatif_session.proofs.starting.starting_tree.Goals as goal
 
 pub returns-in-None-clause-fit : goal.returns-in-None-clause-fit
-returns-in-None-clause-fit c =
+returns-in-None-clause-fit g c =
     if_ok c.root.result (λ (t : Tree). t ≡ leaf_of c.args.inst.now (zeros c.args.inst.now 1)) (λ (t : Tree). All (λ l. LeafFits c.args.inst.now l.1) (leaves_of t)) (root_fits c.args.inst.now) c.root.ensures

@@ -1,4 +1,4 @@
-use Rattle.std.proofs.Common.{ap, subst, ◌∙◌}
+use Rattle.std.proofs.Common.{◌≡◌, subst}
 use Rattle.std.specs.Prelude.{Option}
 use Rattle.shelf_port.specs.Files.{Files, with_file, LeavesPrefix}
 use Rattle.location_terms.specs.Instance.{Instance}
@@ -12,8 +12,9 @@ pub returns-in-Ok-clause-ok : goal.returns-in-Ok-clause-ok
 returns-in-Ok-clause-ok g c =
     let cert : Certificate = certificate_lent c.in-Some.cert in
     let before : Option Files = g.H.Shelf.files c.args.shelf.now in
-    let written = c.in-Ok.ensures.ok ∙ ap (λ (I : Instance). with_file before c.args.name.now (certificate_text I cert)) c.instance.ensures.same in
-    subst (λ o. IsCertified c.args.self.now o before (g.H.Shelf.files c.write_cert.new.shelf) c.args.name.now) c.in-Some.ensures.same (c.in-Some.ensures.stands, written)
+    let after : Option Files = g.H.Shelf.files c.write_cert.new.shelf in
+    let written = subst (λ (I : Instance). after ≡ with_file before c.args.name.now (certificate_text I cert)) c.instance.ensures.same c.in-Ok.ensures.ok in
+    subst (λ o. IsCertified c.args.self.now o before after c.args.name.now) c.in-Some.ensures.same (c.in-Some.ensures.stands, written)
 
 pub returns-in-Err-Failed-clause-err : goal.returns-in-Err-Failed-clause-err
 returns-in-Err-Failed-clause-err g c =

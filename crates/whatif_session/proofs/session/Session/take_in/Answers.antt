@@ -1,7 +1,6 @@
-use Rattle.std.proofs.Common.{◌≡◌, Some, sym, ap, subst}
+use Rattle.std.proofs.Common.{◌≡◌, Some, sym, subst}
 use Rattle.tree_search.specs.Answer.{claim_in, certificate_in, tree_in}
 use Rattle.certificate_lines.specs.Length.{DecidesOnce}
-use Rattle.location_terms.specs.Instance.{Instance}
 use Rattle.whatif_session.specs.State.{SessionView, Solved}
 use Rattle.whatif_session.specs.Standing.{IsStanding}
 use Rattle.whatif_session.specs.Booked.{KeepsBook}
@@ -11,10 +10,10 @@ use Rattle.whatif_session.proofs.Booked.{booked_anew}
 use Rattle.whatif_session.proofs.session.Session.take_in.Goals as goal
 
 pub invariant_of-self : goal.invariant_of-self
-invariant_of-self c =
+invariant_of-self g c =
     let s = c.self.inside in
     let old : SessionView = session_view s in
-    let answer = c.args.found.answer in
+    let answer = c.args.found.solved.answer in
     let e = c.keep-serial.ensures in
     let stands : IsStanding old.instance (certificate_in old.instance answer) = subst (λ (p : SessionView). IsStanding p.instance (certificate_in p.instance answer)) (sym c.self.view_is) c.requires.found.1.stands in
     let claim : c.args.claim ≡ claim_in old.instance answer = subst (λ (p : SessionView). c.args.claim ≡ claim_in p.instance answer) (sym c.self.view_is) c.requires.claim in

@@ -1,0 +1,4 @@
+-- The definitions that the contracts cite.
+pub mod Host
+pub mod Narrow
+pub mod Tell

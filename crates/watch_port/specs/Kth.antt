@@ -1,0 +1,16 @@
+-- The watch that says "enough" after so many questions.
+use Rattle.std.specs.Prelude.{ℕ, Bool, true, false, ◌+◌, ◌-◌}
+use Rattle.watch_port.specs.declared.kth_watch.KthWatch.{KthWatch}
+
+-- at how many more questions it says nothing
+abbrev pub quiet_of : KthWatch → ℕ
+quiet_of w = w.quiet
+
+-- how often it said "enough"
+abbrev pub said_so_far : KthWatch → ℕ
+said_so_far w = w.said
+
+-- once it answered a question so
+abbrev pub after_question : Bool → KthWatch → KthWatch
+after_question true w = record w { said = w.said + 1 }
+after_question false w = record w { quiet = w.quiet - 1 }
