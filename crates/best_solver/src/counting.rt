@@ -1,8 +1,9 @@
 //! Solves that count sites.
-ghost use Rattle.std.specs.Prelude.{◌≤◌, IfOk};
+ghost use Rattle.std.specs.Prelude.{◌≡◌, ◌≤◌, IfOk};
 ghost use Rattle.lane_order.specs.Order.{IsOrderOf};
-ghost use Rattle.tree_search.specs.Answer.{IsSearchStart, IsAnswerTo};
+ghost use Rattle.tree_search.specs.Answer.{IsSearchStart, IsAnswerTo, made_in};
 ghost use Rattle.watch_port.specs.Left.{IsBudgetLeft};
+ghost use Rattle.watch_port.specs.Limits.{no_limits};
 ghost use Rattle.solver_port.specs.Start.{where_judged};
 
 use cover_strategy::{CoverStrategy, covering_of, is_count_tight};
@@ -33,8 +34,10 @@ pub(crate) fn counted<S: Strategy + Drop, W: Watch>(
     requires order { IsOrderOf order.now inst.now }
     requires start { IsSearchStart inst.now start.tree start.held.items (where_judged start.plan start.cost) budget }
     ensures answer { IfOk result (λ s. IsAnswerTo inst.now start.tree (where_judged start.plan start.cost) s.budget s.answer) }
-    ensures left { IfOk result (λ s. IsBudgetLeft budget s.budget (W.enoughs watch.old) (W.enoughs watch.new)) }
+    ensures left { IfOk result (λ s. IsBudgetLeft budget s.budget (made_in s.answer) (W.enoughs watch.old) (W.enoughs watch.new)) }
     ensures counts { W.enoughs watch.old ≤ W.enoughs watch.new }
+    ensures limits { W.goes_by watch.new ≡ W.goes_by watch.old }
+    ensures unlimited { W.goes_by watch.old ≡ no_limits → W.enoughs watch.new ≡ W.enoughs watch.old }
 {
     let sites = covering_of(alloc, inst)?;
     let by_cost = LaneOrder::of(alloc, &sites)?;

@@ -1,8 +1,9 @@
 //! The entries of a cost curve.
-ghost use Rattle.std.specs.Prelude.{◌≤◌, IfOk};
+ghost use Rattle.std.specs.Prelude.{◌≡◌, ◌≤◌, IfOk};
 ghost use Rattle.lane_order.specs.Order.{IsOrderOf};
-ghost use Rattle.tree_search.specs.Answer.{IsSearchStart, IsAnswerTo};
+ghost use Rattle.tree_search.specs.Answer.{IsSearchStart, IsAnswerTo, made_in};
 ghost use Rattle.watch_port.specs.Left.{IsBudgetLeft};
+ghost use Rattle.watch_port.specs.Limits.{no_limits};
 ghost use Rattle.solver_port.specs.Start.{where_judged};
 
 use crate::counting::{counted, counts};
@@ -31,8 +32,10 @@ pub(crate) fn entry_solved<W: Watch>(
     requires order { IsOrderOf order.now inst.now }
     requires start { IsSearchStart inst.now start.tree start.held.items (where_judged start.plan start.cost) budget }
     ensures answer { IfOk result (λ s. IsAnswerTo inst.now start.tree (where_judged start.plan start.cost) s.budget s.answer) }
-    ensures left { IfOk result (λ s. IsBudgetLeft budget s.budget (W.enoughs watch.old) (W.enoughs watch.new)) }
+    ensures left { IfOk result (λ s. IsBudgetLeft budget s.budget (made_in s.answer) (W.enoughs watch.old) (W.enoughs watch.new)) }
     ensures counts { W.enoughs watch.old ≤ W.enoughs watch.new }
+    ensures limits { W.goes_by watch.new ≡ W.goes_by watch.old }
+    ensures unlimited { W.goes_by watch.old ≡ no_limits → W.enoughs watch.new ≡ W.enoughs watch.old }
 {
     let (searched, numbers) = entry_searched(alloc, inst, order, start, left, budget, watch)?;
     let Searched {
@@ -60,8 +63,10 @@ fn entry_searched<W: Watch>(
     requires order { IsOrderOf order.now inst.now }
     requires start { IsSearchStart inst.now start.tree start.held.items (where_judged start.plan start.cost) budget }
     ensures answer { IfOk result (λ s. IsAnswerTo inst.now start.tree (where_judged start.plan start.cost) s.0.budget s.0.answer) }
-    ensures left { IfOk result (λ s. IsBudgetLeft budget s.0.budget (W.enoughs watch.old) (W.enoughs watch.new)) }
+    ensures left { IfOk result (λ s. IsBudgetLeft budget s.0.budget (made_in s.0.answer) (W.enoughs watch.old) (W.enoughs watch.new)) }
     ensures counts { W.enoughs watch.old ≤ W.enoughs watch.new }
+    ensures limits { W.goes_by watch.new ≡ W.goes_by watch.old }
+    ensures unlimited { W.goes_by watch.old ≡ no_limits → W.enoughs watch.new ≡ W.enoughs watch.old }
 {
     if near_in(left).is_none() && counts(inst) {
         return counted_entry(alloc, inst, order, start, left, budget, watch);
@@ -82,8 +87,10 @@ fn counted_entry<W: Watch>(
     requires order { IsOrderOf order.now inst.now }
     requires start { IsSearchStart inst.now start.tree start.held.items (where_judged start.plan start.cost) budget }
     ensures answer { IfOk result (λ s. IsAnswerTo inst.now start.tree (where_judged start.plan start.cost) s.0.budget s.0.answer) }
-    ensures left { IfOk result (λ s. IsBudgetLeft budget s.0.budget (W.enoughs watch.old) (W.enoughs watch.new)) }
+    ensures left { IfOk result (λ s. IsBudgetLeft budget s.0.budget (made_in s.0.answer) (W.enoughs watch.old) (W.enoughs watch.new)) }
     ensures counts { W.enoughs watch.old ≤ W.enoughs watch.new }
+    ensures limits { W.goes_by watch.new ≡ W.goes_by watch.old }
+    ensures unlimited { W.goes_by watch.old ≡ no_limits → W.enoughs watch.new ≡ W.enoughs watch.old }
 {
     let numbers = numbers_again(alloc, left)?;
     let first = SearchStrategy::of(alloc, inst, order, numbers_in(left))?;
@@ -104,8 +111,10 @@ fn retraced_entry<W: Watch>(
     requires order { IsOrderOf order.now inst.now }
     requires start { IsSearchStart inst.now start.tree start.held.items (where_judged start.plan start.cost) budget }
     ensures answer { IfOk result (λ s. IsAnswerTo inst.now start.tree (where_judged start.plan start.cost) s.0.budget s.0.answer) }
-    ensures left { IfOk result (λ s. IsBudgetLeft budget s.0.budget (W.enoughs watch.old) (W.enoughs watch.new)) }
+    ensures left { IfOk result (λ s. IsBudgetLeft budget s.0.budget (made_in s.0.answer) (W.enoughs watch.old) (W.enoughs watch.new)) }
     ensures counts { W.enoughs watch.old ≤ W.enoughs watch.new }
+    ensures limits { W.goes_by watch.new ≡ W.goes_by watch.old }
+    ensures unlimited { W.goes_by watch.old ≡ no_limits → W.enoughs watch.new ≡ W.enoughs watch.old }
 {
     let first = SearchStrategy::of(alloc, inst, order, numbers_in(left))?;
     let mut strategy = NearStrategy::of(near_in(left), former_in(left), first);

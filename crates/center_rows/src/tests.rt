@@ -5,7 +5,13 @@ use solver_port::PlainSolver;
 use std::alloc::Global;
 use std::test::Fail;
 use tree_search::max_nodes;
-use watch_port::{KthWatch, NoWatch};
+use watch_port::{KthWatch, Limits, NoWatch, Watch};
+
+// A watch says nothing without limits.
+const A_SECOND: Limits = Limits {
+    seconds: Some(1),
+    gap: None,
+};
 
 // Three places on a road, 4 and 7 units apart, each a site and a customer: the p-median file of the lines
 // `3 3 1`, `1 2 4` and `2 3 7`.
@@ -35,7 +41,13 @@ fn radius(answer: CenterAnswer) -> Option<u64> {
 fn radius_with(alloc: Global, inst: &Instance, count: u32) -> Result<Option<u64>, NoMemory> {
     let counted = with_exact_count(alloc, inst, count.min(3_000))?;
     let budget = max_nodes(&counted);
-    let sought = center(alloc, &counted, budget, &mut PlainSolver, &mut NoWatch)?;
+    let sought = center(
+        alloc,
+        &counted,
+        budget,
+        &mut PlainSolver,
+        &mut NoWatch::new(),
+    )?;
     Ok(radius(sought.answer))
 }
 
@@ -58,7 +70,7 @@ fn cost_with(alloc: Global, inst: &Instance, count: u32) -> Result<Option<u64>, 
         budget,
         &mut PlainSolver,
         None,
-        &mut NoWatch,
+        &mut NoWatch::new(),
     )?;
     Ok(cost(solved.answer))
 }
@@ -85,14 +97,14 @@ fn has_costs(alloc: Global, inst: &Instance) -> Result<bool, NoMemory> {
 fn is_ended(alloc: Global, inst: &Instance, quiet: u64, best: u64) -> Result<bool, NoMemory> {
     let budget = max_nodes(inst);
     let mut watch = KthWatch::after(quiet);
+    watch.begin(A_SECOND);
     let sought = center(alloc, inst, budget, &mut PlainSolver, &mut watch)?;
-    let spent = sought.budget;
-    let answer = sought.answer;
-    Ok(match answer {
+    let left = sought.budget;
+    Ok(match sought.answer {
         CenterAnswer::Best { radius, .. } => radius == best,
         CenterAnswer::Infeasible { .. } => false,
         CenterAnswer::Open { low, probe, .. } => {
-            low <= best && spent < budget && spent <= probe.nodes()
+            low <= best && left < budget && left <= probe.nodes()
         }
     })
 }

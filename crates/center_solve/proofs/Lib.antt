@@ -2,3 +2,4 @@ mod Probes
 mod Rays
 mod Answered
 mod Limits
+mod Budgets

@@ -1,5 +1,5 @@
 -- What a search for a center answers: by a tree that shows that no plan has a smaller radius, or by the probe that spent its budget.
-use Rattle.std.specs.Prelude.{◌≡◌, ◌⊎◌, ℕ, ◌+◌, ◌<◌, ◌≤◌, Option, None, IfSome, MatchOption}
+use Rattle.std.specs.Prelude.{◌≡◌, ◌⊎◌, ℕ, ◌+◌, ◌-◌, ◌<◌, ◌≤◌, Option, None, IfSome, MatchOption}
 use Rattle.location_terms.specs.declared.claim.Claim.TheVariants.{Infeasible as NoPlan}
 use Rattle.location_terms.specs.Instance.{Instance}
 use Rattle.location_terms.specs.Plan.{Plan, IsFeasible}
@@ -10,6 +10,7 @@ use Rattle.instance_store.specs.Changes.{with_count as with_counts}
 use Rattle.plan_search.specs.InBox.{HasNoCaps}
 use Rattle.tree_search.specs.Grown.{IsGrownFrom, PlansWereSought}
 use Rattle.tree_search.specs.Answer.{HasFreeCount, HasOpenLeaf}
+use Rattle.watch_port.specs.Left.{IsBudgetLeft}
 use Rattle.solver_port.specs.Start.{root_of}
 use Rattle.plan_radius.specs.Radius.{radius_of, IsLeastRadius, IsCenter, IsAboveLanes}
 use Rattle.plan_radius.specs.Cheaper.{below_cost, without_costs}
@@ -65,6 +66,17 @@ abbrev pub IsCenterAnswer : Instance → ℕ → ℕ → CenterAnswer → Type 0
 IsCenterAnswer I given left (Best radius plan tree) = IsFeasible I plan × (radius ≡ radius_of I plan) × ShowsNoPlan (below_cost I radius) tree × IsTreeOfProbe I given tree
 IsCenterAnswer I given left (Infeasible tree) = ShowsNoPlan I tree × IsTreeOfProbe I given tree
 IsCenterAnswer I given left (Open low plan tree at probe) = IsOpenCenter I given left low plan tree at probe
+
+-- how many nodes the splits made of a tree that grew from one leaf
+abbrev pub made_by : Tree → ℕ
+made_by t = nodes_of t - 1
+
+-- So much is left of the given budget, and the watch had said "enough" so often before and after: all of it where the search ended. Where a probe stayed open, it
+-- is what the watch left to that one, before which it had said it so often: what it said in an earlier one, which ended all the same, takes nothing off.
+abbrev pub IsCenterLeft : ℕ → ℕ → ℕ → ℕ → CenterAnswer → Type 0
+IsCenterLeft given left before after (Best radius plan tree) = left ≡ given
+IsCenterLeft given left before after (Infeasible tree) = left ≡ given
+IsCenterLeft given left before after (Open low plan tree at probe) = (amid : ℕ) × (before ≤ amid) × IsBudgetLeft given left (made_by probe) amid after
 
 -- what each answer means for the plans of the instance, whatever shows it
 abbrev pub CenterHolds : Instance → CenterAnswer → Type 0

@@ -16,7 +16,7 @@ use Rattle.center_solve.specs.declared.known.Step.{Step}
 use Rattle.center_solve.specs.declared.known.Step.TheVariants as steps
 use Rattle.center_solve.specs.declared.probe.Finding.{Finding}
 use Rattle.center_solve.specs.declared.probe.Finding.TheVariants.{Found, Empty, Open}
-use Rattle.center_solve.specs.Center.{ShowsNoPlan, IsOpenProbe, IsTreeOfProbe, probed, IsCenterAnswer}
+use Rattle.center_solve.specs.Center.{ShowsNoPlan, IsOpenProbe, IsTreeOfProbe, probed, made_by, IsCenterAnswer, IsCenterLeft}
 
 -- what a search that was cut off gives
 abbrev pub found_or_open : Option Plan → Tree → Finding
@@ -47,7 +47,13 @@ abbrev pub IsStepFrom : Instance → ℕ → Known → Step → Type 0
 IsStepFrom I given old (steps.On new) = IsKnownSoFar I given new × (old.low ≤ new.low) × (new.radius ≤ old.radius) × (new.radius + old.low < old.radius + new.low)
 IsStepFrom I given old (steps.Ends sought) = IsCenterAnswer I given sought.budget sought.answer
 
--- where the step ends the search, so much of the budget is left as the watch let, which had said "enough" so often before and after
+-- a probe that stayed open has so much left of the budget that it was given, where the watch had said "enough" so often before and after
+abbrev pub IsLeftToProbe : (given left before after : ℕ) → Finding → Type 0
+IsLeftToProbe given left before after (Found plan) = Unit {0}
+IsLeftToProbe given left before after (Empty tree) = Unit {0}
+IsLeftToProbe given left before after (Open tree) = IsBudgetLeft given left (made_by tree) before after
+
+-- the same where the step ends the search
 abbrev pub LeavesBudget : (given before after : ℕ) → Step → Type 0
 LeavesBudget given before after (steps.On new) = Unit {0}
-LeavesBudget given before after (steps.Ends sought) = IsBudgetLeft given sought.budget before after
+LeavesBudget given before after (steps.Ends sought) = IsCenterLeft given sought.budget before after sought.answer

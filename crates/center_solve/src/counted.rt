@@ -2,8 +2,9 @@
 ghost use Rattle.std.specs.Prelude.{◌≡◌, ◌+◌, ◌^◌, ◌≤◌, None, IfOk};
 ghost use Rattle.location_terms.specs.Optimal.{ClaimHolds};
 ghost use Rattle.location_terms.specs.declared.limits.TheConstants.{MAX_SITES};
-ghost use Rattle.tree_search.specs.Answer.{IsWithin, IsAnswerTo, IsDecided, claim_in, plan_in, most_decisions};
+ghost use Rattle.tree_search.specs.Answer.{IsWithin, IsAnswerTo, IsDecided, claim_in, plan_in, made_in, most_decisions};
 ghost use Rattle.watch_port.specs.Left.{IsBudgetLeft};
+ghost use Rattle.watch_port.specs.Limits.{no_limits};
 ghost use Rattle.solver_port.specs.Start.{root_of};
 ghost use Rattle.center_solve.specs.Center.{with_exact_count};
 
@@ -43,8 +44,10 @@ pub fn curve_entry<S: Solver, W: Watch>(
     ensures answer { IfOk result (λ s. IsAnswerTo (with_exact_count inst.now count) (root_of (with_exact_count inst.now count)) None s.budget s.answer) }
     ensures holds { IfOk result (λ s. ClaimHolds (with_exact_count inst.now count) (claim_in (with_exact_count inst.now count) s.answer) (plan_in s.answer)) }
     ensures decided { IfOk result (λ s. 2 ^ (most_decisions inst.now + 1) ≤ s.budget → IsDecided s.answer) }
-    ensures left { IfOk result (λ s. IsBudgetLeft budget s.budget (W.enoughs watch.old) (W.enoughs watch.new)) }
+    ensures left { IfOk result (λ s. IsBudgetLeft budget s.budget (made_in s.answer) (W.enoughs watch.old) (W.enoughs watch.new)) }
     ensures counts { W.enoughs watch.old ≤ W.enoughs watch.new }
+    ensures limits { W.goes_by watch.new ≡ W.goes_by watch.old }
+    ensures unlimited { W.goes_by watch.old ≡ no_limits → W.enoughs watch.new ≡ W.enoughs watch.old }
 {
     let counted = with_exact_count(alloc, inst, count)?;
     // An instance is valid.

@@ -1,7 +1,8 @@
 //! Solves that begin with nothing.
-ghost use Rattle.std.specs.Prelude.{◌≤◌, None, IfOk};
-ghost use Rattle.tree_search.specs.Answer.{IsWithin, IsAnswerTo};
+ghost use Rattle.std.specs.Prelude.{◌≡◌, ◌≤◌, None, IfOk};
+ghost use Rattle.tree_search.specs.Answer.{IsWithin, IsAnswerTo, made_in};
 ghost use Rattle.watch_port.specs.Left.{IsBudgetLeft};
+ghost use Rattle.watch_port.specs.Limits.{no_limits};
 ghost use Rattle.solver_port.specs.Start.{root_of};
 
 use instance_store::{Instance, NoMemory};
@@ -23,8 +24,10 @@ pub(crate) fn solved_afresh<S: Solver, W: Watch>(
 ) -> Result<Solved<S::Kept>, NoMemory>
     requires { IsWithin inst.now budget }
     ensures answer { IfOk result (λ s. IsAnswerTo inst.now (root_of inst.now) None s.budget s.answer) }
-    ensures left { IfOk result (λ s. IsBudgetLeft budget s.budget (W.enoughs watch.old) (W.enoughs watch.new)) }
+    ensures left { IfOk result (λ s. IsBudgetLeft budget s.budget (made_in s.answer) (W.enoughs watch.old) (W.enoughs watch.new)) }
     ensures counts { W.enoughs watch.old ≤ W.enoughs watch.new }
+    ensures limits { W.goes_by watch.new ≡ W.goes_by watch.old }
+    ensures unlimited { W.goes_by watch.old ≡ no_limits → W.enoughs watch.new ≡ W.enoughs watch.old }
 {
     let order = LaneOrder::of(alloc, inst)?;
     let start = fresh_start(alloc, inst)?;

@@ -3,8 +3,9 @@ ghost use Rattle.std.specs.Prelude.{◌≡◌, ◌<◌, ◌≤◌, Some, IfOk};
 ghost use Rattle.location_terms.specs.Instance.{IsValid};
 ghost use Rattle.tree_search.specs.Answer.{IsWithin};
 ghost use Rattle.watch_port.specs.Left.{IsBudgetLeft};
+ghost use Rattle.watch_port.specs.Limits.{no_limits};
 ghost use Rattle.center_solve.specs.declared.answer.CenterAnswer.TheVariants.{Best, Open};
-ghost use Rattle.center_solve.specs.Center.{IsCenterAnswer};
+ghost use Rattle.center_solve.specs.Center.{IsCenterAnswer, IsCenterLeft};
 ghost use Rattle.center_solve.specs.Probing.{IsKnownSoFar, IsStepFrom, LeavesBudget};
 
 use crate::probe::{Finding, probe};
@@ -50,8 +51,10 @@ pub(crate) fn narrowed<S: Solver, W: Watch>(
     requires valid { IsValid inst.now }
     requires known { IsKnownSoFar inst.now budget known }
     ensures answer { IfOk result (λ s. IsCenterAnswer inst.now budget s.budget s.answer) }
-    ensures left { IfOk result (λ s. IsBudgetLeft budget s.budget (W.enoughs watch.old) (W.enoughs watch.new)) }
+    ensures left { IfOk result (λ s. IsCenterLeft budget s.budget (W.enoughs watch.old) (W.enoughs watch.new) s.answer) }
     ensures counts { W.enoughs watch.old ≤ W.enoughs watch.new }
+    ensures limits { W.goes_by watch.new ≡ W.goes_by watch.old }
+    ensures unlimited { W.goes_by watch.old ≡ no_limits → W.enoughs watch.new ≡ W.enoughs watch.old }
 {
     let mut known = known;
     'probes: while known.low < known.radius {
@@ -83,6 +86,8 @@ fn narrow<S: Solver, W: Watch>(
     ensures step { IfOk result (IsStepFrom inst.now budget known) }
     ensures left { IfOk result (LeavesBudget budget (W.enoughs watch.old) (W.enoughs watch.new)) }
     ensures counts { W.enoughs watch.old ≤ W.enoughs watch.new }
+    ensures limits { W.goes_by watch.new ≡ W.goes_by watch.old }
+    ensures unlimited { W.goes_by watch.old ≡ no_limits → W.enoughs watch.new ≡ W.enoughs watch.old }
 {
     let at = middle(costs, known.low, known.radius);
     let allowed = allowance(known.low, known.radius, budget, watch);
@@ -105,18 +110,19 @@ fn narrow<S: Solver, W: Watch>(
 // How much of the budget a probe may spend between two such ends: all of it or, once the watch says "enough", too
 // little for a split.
 fn allowance<W: Watch>(low: u64, radius: u64, budget: u32, watch: &mut W) -> u32
-    ensures { IsBudgetLeft budget result (W.enoughs watch.old) (W.enoughs watch.new) }
+    ensures left { IsBudgetLeft budget result 0 (W.enoughs watch.old) (W.enoughs watch.new) }
+    ensures limits { W.goes_by watch.new ≡ W.goes_by watch.old }
+    ensures unlimited { W.goes_by watch.old ≡ no_limits → W.enoughs watch.new ≡ W.enoughs watch.old }
 {
     let progress = Progress {
         nodes: 0,
         low: Some(low),
         best: Some(radius),
     };
-    if watch.is_enough(progress) {
-        budget.min(1)
-    } else {
-        budget
+    if !watch.is_enough(progress) || budget == 0 {
+        return budget;
     }
+    1
 }
 
 // What is known with a plan of a smaller radius.

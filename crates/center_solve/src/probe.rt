@@ -2,9 +2,9 @@
 ghost use Rattle.std.specs.Prelude.{◌≡◌, ◌≤◌, IfOk};
 ghost use Rattle.location_terms.specs.Instance.{IsValid};
 ghost use Rattle.tree_search.specs.Answer.{IsWithin};
-ghost use Rattle.watch_port.specs.Left.{IsBudgetLeft};
+ghost use Rattle.watch_port.specs.Limits.{no_limits};
 ghost use Rattle.center_solve.specs.Center.{probed};
-ghost use Rattle.center_solve.specs.Probing.{found_or_open, probe_in, IsProbeOf};
+ghost use Rattle.center_solve.specs.Probing.{found_or_open, probe_in, IsProbeOf, IsLeftToProbe};
 
 use crate::fresh::solved_afresh;
 use instance_store::{Instance, NoMemory};
@@ -45,8 +45,10 @@ pub(crate) fn probe<S: Solver, W: Watch>(
     requires within { IsWithin inst.now budget }
     requires valid { IsValid inst.now }
     ensures found { IfOk result (λ e. IsProbeOf inst.now at budget e.budget e.finding) }
-    ensures left { IfOk result (λ e. IsBudgetLeft budget e.budget (W.enoughs watch.old) (W.enoughs watch.new)) }
+    ensures left { IfOk result (λ e. IsLeftToProbe budget e.budget (W.enoughs watch.old) (W.enoughs watch.new) e.finding) }
     ensures counts { W.enoughs watch.old ≤ W.enoughs watch.new }
+    ensures limits { W.goes_by watch.new ≡ W.goes_by watch.old }
+    ensures unlimited { W.goes_by watch.old ≡ no_limits → W.enoughs watch.new ≡ W.enoughs watch.old }
 {
     let free = probe_instance(alloc, inst, at)?;
     let nothing: Option<S::Kept> = None;

@@ -1,11 +1,12 @@
 //! The search for a center.
-ghost use Rattle.std.specs.Prelude.{ℕ, ◌+◌, ◌^◌, ◌≤◌, IfOk};
+ghost use Rattle.std.specs.Prelude.{◌≡◌, ℕ, ◌+◌, ◌^◌, ◌≤◌, IfOk};
 ghost use Rattle.location_terms.specs.Instance.{IsValid};
 ghost use Rattle.location_terms.specs.Plan.{IsFeasible};
 ghost use Rattle.tree_search.specs.Answer.{IsWithin, most_decisions};
 ghost use Rattle.watch_port.specs.Left.{IsBudgetLeft};
+ghost use Rattle.watch_port.specs.Limits.{no_limits};
 ghost use Rattle.center_solve.specs.declared.probe.Finding.TheVariants.{Open as StaysOpen};
-ghost use Rattle.center_solve.specs.Center.{IsJustAboveLanes, IsCenterAnswer, CenterHolds, HasEndedSearch};
+ghost use Rattle.center_solve.specs.Center.{IsJustAboveLanes, IsCenterAnswer, IsCenterLeft, CenterHolds, HasEndedSearch, made_by};
 ghost use Rattle.center_solve.specs.Probing.{IsProbeOf};
 
 use crate::greatest::above_lanes;
@@ -29,8 +30,9 @@ use watch_port::Watch;
 /// Probes ask whether some plan's radius is below a cost, first below more than every lane costs, and then
 /// by bisection over the costs of lanes. Each is a solve of its own, of at most `budget` nodes, and the first
 /// that its budget ends without an answer ends the whole. Where that is the first of all, no plan is known, and of
-/// the best radius nothing. The watch is asked between probes too, and told the two ends of the best radius there;
-/// once it said "enough", the probe at work or the next one has what it spent for its budget. It fails only where
+/// the best radius nothing. In a probe nothing costs anything, and the watch is told nothing of the best radius; it is
+/// asked between probes too, and told the two ends of it there. Once it said "enough", the probe at work or the next one
+/// has what it spent for its budget. What it says in a probe that comes to an answer ends nothing. It fails only where
 /// memory runs out.
 pub fn center<S: Solver, W: Watch>(
     alloc: Global,
@@ -43,8 +45,10 @@ pub fn center<S: Solver, W: Watch>(
     ensures shown { IfOk result (λ s. IsCenterAnswer inst.now budget s.budget s.answer) }
     ensures holds { IfOk result (λ s. CenterHolds inst.now s.answer) }
     ensures settled { IfOk result (λ s. 2 ^ (most_decisions inst.now + 1) ≤ s.budget → HasEndedSearch s.answer) }
-    ensures left { IfOk result (λ s. IsBudgetLeft budget s.budget (W.enoughs watch.old) (W.enoughs watch.new)) }
+    ensures left { IfOk result (λ s. IsCenterLeft budget s.budget (W.enoughs watch.old) (W.enoughs watch.new) s.answer) }
     ensures counts { W.enoughs watch.old ≤ W.enoughs watch.new }
+    ensures limits { W.goes_by watch.new ≡ W.goes_by watch.old }
+    ensures unlimited { W.goes_by watch.old ≡ no_limits → W.enoughs watch.new ≡ W.enoughs watch.old }
 {
     // An instance is valid.
     let _sites = inst.sites();
@@ -63,8 +67,10 @@ fn sought<S: Solver, W: Watch>(
     requires within { IsWithin inst.now budget }
     requires valid { IsValid inst.now }
     ensures shown { IfOk result (λ s. IsCenterAnswer inst.now budget s.budget s.answer) }
-    ensures left { IfOk result (λ s. IsBudgetLeft budget s.budget (W.enoughs watch.old) (W.enoughs watch.new)) }
+    ensures left { IfOk result (λ s. IsCenterLeft budget s.budget (W.enoughs watch.old) (W.enoughs watch.new) s.answer) }
     ensures counts { W.enoughs watch.old ≤ W.enoughs watch.new }
+    ensures limits { W.goes_by watch.new ≡ W.goes_by watch.old }
+    ensures unlimited { W.goes_by watch.old ≡ no_limits → W.enoughs watch.new ≡ W.enoughs watch.old }
 {
     let at = above_lanes(inst);
     let end = probe(alloc, inst, at, budget, solver, watch)?;
@@ -99,8 +105,10 @@ fn found<S: Solver, W: Watch>(
     requires valid { IsValid inst.now }
     requires feasible { IsFeasible inst.now plan }
     ensures answer { IfOk result (λ s. IsCenterAnswer inst.now budget s.budget s.answer) }
-    ensures left { IfOk result (λ s. IsBudgetLeft budget s.budget (W.enoughs watch.old) (W.enoughs watch.new)) }
+    ensures left { IfOk result (λ s. IsCenterLeft budget s.budget (W.enoughs watch.old) (W.enoughs watch.new) s.answer) }
     ensures counts { W.enoughs watch.old ≤ W.enoughs watch.new }
+    ensures limits { W.goes_by watch.new ≡ W.goes_by watch.old }
+    ensures unlimited { W.goes_by watch.old ≡ no_limits → W.enoughs watch.new ≡ W.enoughs watch.old }
 {
     let radius = radius_of(inst, &plan);
     // No radius is below the cost of the cheapest lane to any customer.
@@ -125,7 +133,8 @@ fn open_at_first(
 ) -> Result<CenterAnswer, NoMemory>
     requires valid { IsValid inst.now }
     requires just { IsJustAboveLanes inst.now at }
-    ensures { IfOk result (λ answer. (budget left : ℕ) → IsProbeOf inst.now at budget left (StaysOpen probe) → IsCenterAnswer inst.now budget left answer) }
+    ensures shown { IfOk result (λ answer. (budget left : ℕ) → IsProbeOf inst.now at budget left (StaysOpen probe) → IsCenterAnswer inst.now budget left answer) }
+    ensures left { IfOk result (λ answer. (budget left before after : ℕ) → IsBudgetLeft budget left (made_by probe) before after → IsCenterLeft budget left before after answer) }
 {
     let reach = at_nothing(inst);
     let tree = tree_within(alloc, inst, reach)?;

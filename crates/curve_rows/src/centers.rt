@@ -17,14 +17,13 @@ const BELOW_SEVEN: &str =
 const NO_PLAN: &str = "dualoc-center 1\ninfeasible\nend\n";
 
 // Nothing is written for these words.
-const REFUSED: [(&str, Status, &str); 10] = [
+const REFUSED: [(&str, Status, &str); 9] = [
     ("center pmed a p c", Status::Usage, "usage\n"),
     ("center pmed a p c p", Status::Usage, "usage\n"),
     ("center pmed a p c c", Status::Usage, "usage\n"),
     ("center pmed a p c a", Status::Usage, "usage\n"),
     ("center pmed a p c n count=02", Status::Usage, "usage\n"),
     ("center pmed a p c n count=3001", Status::Usage, "usage\n"),
-    ("center pmed a p c n gap=", Status::Usage, "usage\n"),
     (
         "center pmed a p c n count=1 count=1",
         Status::Usage,

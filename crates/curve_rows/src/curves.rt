@@ -1,6 +1,5 @@
 //! What each number of medians of three vertices costs.
 use memory_runs::{Calls, NETWORK, Outcome, Row, Status, WIDTHS, ran};
-use std::alloc::Global;
 use std::test::Fail;
 
 const LINES: [&str; 4] = [
@@ -19,14 +18,13 @@ const CURVE: Row<'static> = Row {
     left: &[("a", NETWORK)],
 };
 
-const REFUSED: [(&str, Status, &str); 9] = [
+const REFUSED: [(&str, Status, &str); 8] = [
     ("curve pmed a 1", Status::Usage, "usage\n"),
     ("curve pmed a 2 1", Status::Usage, "usage\n"),
     ("curve pmed a 1 3001", Status::Usage, "usage\n"),
     ("curve pmed a 01 2", Status::Usage, "usage\n"),
     ("curve pmed a 1 +2", Status::Usage, "usage\n"),
     ("curve pmed a 1 2 count=1", Status::Usage, "usage\n"),
-    ("curve pmed a 1 2 seconds=", Status::Usage, "usage\n"),
     (
         "curve pmed a 1 2 budget=3333334",
         Status::TooLarge,
@@ -44,25 +42,11 @@ fn prints_a_line_for_each_number(rt: HostRuntime) -> Result<(), Fail> {
         );
     }
     let one = Row {
-        words: "curve pmed a 2 2 budget=100",
+        words: "curve pmed a 2 2 budget=0",
         texts: &["count 2 optimal 4.000000\n"],
         ..CURVE
     };
     assert!(rt; one.is_met(rt.alloc(), Calls::sound(7))?);
-    Ok(())
-}
-
-// Without a split nothing is proved of either number.
-fn ends_within_no_node(alloc: Global) -> Result<bool, Fail> {
-    let words = "curve pmed a 1 2 budget=0";
-    let found = ran(alloc, words, &[("a", NETWORK)], b"", Calls::sound(7))?;
-    let lines = "count 1 bracket * * nodes 1 budget 0\ncount 2 bracket * * nodes 1 budget 0\n";
-    Ok(found.is_like(Status::Done, lines))
-}
-
-#[test]
-fn prints_brackets_where_its_budgets_are_spent(rt: HostRuntime) -> Result<(), Fail> {
-    assert!(rt; ends_within_no_node(rt.alloc())?);
     Ok(())
 }
 

@@ -1,5 +1,5 @@
 -- A desk that goes on with a scenario.
-use Rattle.std.proofs.Common.{◌≡◌, ap, sym, subst, ◌∙◌}
+use Rattle.std.proofs.Common.{◌≡◌, List, ap, sym, subst, ◌∙◌}
 use Rattle.std.specs.Prelude.{Ok}
 use Rattle.edit_history.specs.History.{History}
 use Rattle.instance_text.specs.OwnText.{own_text}

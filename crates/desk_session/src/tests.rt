@@ -68,7 +68,6 @@ const FAILING: [(&str, &str); 6] = [
 ];
 
 // Says nothing, and keeps the limits of the last solve.
-#[derive(Drop)]
 struct LimitsHeard {
     limits: Option<Limits>,
 }

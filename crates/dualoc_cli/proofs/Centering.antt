@@ -37,8 +37,7 @@ use Rattle.dualoc_cli.specs.Run.{Run, HasTask}
 use Rattle.dualoc_cli.specs.Check.{DeservesYes}
 use Rattle.dualoc_cli.specs.Search.{HasLargeBudget}
 use Rattle.dualoc_cli.specs.Center.{counted_by, HasCenterTask, cut_instance, showing_tree, cut_certificate, center_plan, center_end, IsCenterFound, HasCenter, center_plan_text, cut_certificate_text, cut_text, IsCentered, IsCenterPlanBegun, IsCutCertificateBegun, IsCutBegun, IsCenterUnwritten, HasCenterBegun}
-use Rattle.dualoc_cli.specs.Reply.{status_of}
-use Rattle.dualoc_cli.specs.Due.{IsCause, IsRefusalStatus, KeepsFiles}
+use Rattle.dualoc_cli.specs.Due.{IsCause, KeepsFiles}
 use Rattle.dualoc_cli.specs.Step.{Heard, Covers}
 use Rattle.dualoc_cli.proofs.Causes.{rose_over, changes_none}
 use Rattle.dualoc_cli.proofs.Apart.{all_apart}
@@ -264,8 +263,3 @@ none_kept r into new effort count old last part same = inl (changes_none r old l
 pub center_large : (r : Run) (into : ResultFiles) (new : List ℕ) (effort : Effort) (count : Option ℕ) (I : Instance) → HasTask r (Center into new effort count) I → max_budget I < budget_in I effort.given
     → HasLargeBudget r
 center_large r into new effort count I task large = large_for r (Center into new effort count) effort.given I task refl large
-
--- what is never answered has any consequence
-pub never_refused : {E : Type 0} (S : Type 0) (result : Result Reply E) → IfOk result (λ reply. IsRefusalStatus (status_of reply) → ⊥) → IfOk result (λ reply. IsRefusalStatus (status_of reply) → S)
-never_refused S (Ok reply) never = λ refusal. absurd (never refusal)
-never_refused S (Err fault) never = tt

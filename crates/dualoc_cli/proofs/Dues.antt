@@ -145,7 +145,7 @@ module _ (r : Run) where
   port_words port.Result cause = task_words (SolveLong cause.into cause.result.asked.effort) cause.instance cause.result.asked.task
   port_words port.New cause = task_words (Convert cause.new) cause.begun.instance cause.begun.task
   port_words port.Input cause = task_words Session cause.1.instance cause.1.task
-  port_words port.Center cause = let asked = cause.result.asked in task_words (Center cause.into cause.new asked.effort asked.count) asked.listed asked.task
+  port_words port.Center cause = let asked = cause.result.asked in task_words (Center cause.into cause.new asked.effort.given asked.count) asked.listed asked.task
 
   refused_words : {S : Type 0} (refusal : Refusal) → IsRefused r refusal → S ⊎ ((command : Command) × (command_of r.words ≡ Some command))
   refused_words LongInstance cause = inr (OnFile cause.file cause.job, cause.asked.words_are)
@@ -174,8 +174,8 @@ module _ (r : Run) where
   reached_words Ended cause = task_words Session cause.1.instance cause.1.task
   reached_words (Ranged range) cause = proof_words cause.instance cause.at (optimum_of cause.instance cause.plan cause.tree) cause.proof
   reached_words NoOptimalClaim cause = proof_words cause.instance cause.at cause.cert cause.proof
-  reached_words (Centered end) cause = let asked = cause.result.asked in task_words (Center cause.into cause.new asked.effort asked.count) asked.listed asked.task
-  reached_words Drawn cause = let row = cause.1.row_is in task_words (Curve row.first row.last row.asked.effort) row.instance row.asked.task
+  reached_words (Centered end) cause = let asked = cause.result.asked in task_words (Center cause.into cause.new asked.effort.given asked.count) asked.listed asked.task
+  reached_words Drawn cause = let row = cause.1.row_is in task_words (Curve row.first row.last row.asked.effort.given) row.instance row.asked.task
 
   pub words_are : (reply : Reply) → IsCause r reply → (status_of reply ≡ Usage) ⊎ ((command : Command) × (command_of r.words ≡ Some command))
   words_are NoCommand cause = inl refl

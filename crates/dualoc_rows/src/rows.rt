@@ -118,7 +118,7 @@ const FILES: [(&str, Status, &str); 22] = [
 ];
 
 // Words over the file of the two sites: a command on it, on a file that isn't there, or none.
-const WORDS: [(&str, Status, &str); 23] = [
+const WORDS: [(&str, Status, &str); 20] = [
     ("", Status::Usage, "usage\n"),
     ("solve", Status::Usage, "usage\n"),
     ("solve ufl", Status::Usage, "usage\n"),
@@ -130,7 +130,6 @@ const WORDS: [(&str, Status, &str); 23] = [
     ("duals ufl a", Status::Done, ITS_DUALS),
     ("duals", Status::Usage, "usage\n"),
     ("duals ufl a capacity=10", Status::Usage, "usage\n"),
-    ("duals ufl a seconds=1", Status::Usage, "usage\n"),
     ("check ufl a", Status::Usage, "usage\n"),
     ("check ufl a ", Status::Usage, "usage\n"),
     ("check ufl a a", Status::Usage, "usage\n"),
@@ -141,12 +140,6 @@ const WORDS: [(&str, Status, &str); 23] = [
         Status::Done,
         "optimal 2338.000000 nodes 1\nopen 1\n",
     ),
-    (
-        "trial 1 2 2 gap=1 seconds=86400",
-        Status::Done,
-        "optimal 2338.000000 nodes 1\nopen 1\n",
-    ),
-    ("trial 1 2 2 budget=1", Status::Usage, "usage\n"),
     ("trial 1 3001 1", Status::Usage, "usage\n"),
     ("trial 01 2 2", Status::Usage, "usage\n"),
     ("trial 1 2 a", Status::Usage, "usage\n"),

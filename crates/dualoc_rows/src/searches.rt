@@ -153,12 +153,6 @@ fn holds_both(alloc: Global, words: &str) -> Result<bool, Fail> {
 fn takes_options_in_either_order(rt: HostRuntime) -> Result<(), Fail> {
     assert!(rt; holds_both(rt.alloc(), "solve cap a p c capacity=10 budget=9")?);
     assert!(rt; holds_both(rt.alloc(), "solve cap a p c budget=9 capacity=10")?);
-    assert!(rt;
-        holds_both(
-            rt.alloc(),
-            "solve cap a p c gap=1.5 budget=9 seconds=86400 capacity=10"
-        )?
-    );
     Ok(())
 }
 

@@ -18,7 +18,7 @@ const YES: &str = "yes optimal 22.000000\n";
 const OLD: &str = "of an earlier day\n";
 
 // Words over the file of the two sites that are answered before anything is written.
-const REFUSED: [(&str, Status, &str); 25] = [
+const REFUSED: [(&str, Status, &str); 17] = [
     ("solve ufl a p p", Status::Usage, "usage\n"),
     ("solve ufl a a c", Status::Usage, "usage\n"),
     ("solve ufl a p a", Status::Usage, "usage\n"),
@@ -41,18 +41,6 @@ const REFUSED: [(&str, Status, &str); 25] = [
         "usage\n",
     ),
     ("solve ufl a p c capacity=3", Status::Usage, "usage\n"),
-    ("solve ufl a seconds=3", Status::Usage, "usage\n"),
-    ("solve ufl a p c seconds=0", Status::Usage, "usage\n"),
-    ("solve ufl a p c seconds=01", Status::Usage, "usage\n"),
-    ("solve ufl a p c seconds=86401", Status::Usage, "usage\n"),
-    (
-        "solve ufl a p c seconds=3 seconds=3",
-        Status::Usage,
-        "usage\n",
-    ),
-    ("solve ufl a p c gap=100", Status::Usage, "usage\n"),
-    ("solve ufl a p c gap=0.00001", Status::Usage, "usage\n"),
-    ("solve ufl a p c gap=1 gap=1", Status::Usage, "usage\n"),
     (
         "solve ufl a p c budget=4294967295",
         Status::TooLarge,

@@ -2,3 +2,4 @@
 pub mod Host
 pub mod Narrow
 pub mod Tell
+pub mod Timer

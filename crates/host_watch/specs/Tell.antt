@@ -1,4 +1,3 @@
--- For private functions alone: no public contract cites this page.
 -- The word before all others with which a program tells how far it is.
 use Rattle.std.specs.Prelude.{ℕ, Bool, false, List, [], ◌∷◌, bytes_eq, codes}
 

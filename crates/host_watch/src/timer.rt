@@ -1,4 +1,7 @@
 //! How long a search has gone on.
+ghost use Rattle.std.specs.Prelude.{◌≡◌, max};
+ghost use Rattle.std.specs.Time.{instant_nanos};
+ghost use Rattle.host_watch.specs.Timer.{nanos_passed, seconds_passed, nanos_behind, IsReadAgain};
 
 use std::time::{Clock, Duration, Instant};
 
@@ -18,7 +21,9 @@ pub(crate) struct Timer {
 
 impl Timer {
     /// Starts at no time at all.
-    pub fn stopped() -> Timer {
+    pub fn stopped() -> Timer
+        ensures { nanos_passed result ≡ 0 }
+    {
         Timer {
             start: None,
             passed: Duration::ZERO,
@@ -27,7 +32,9 @@ impl Timer {
     }
 
     /// Starts now.
-    pub fn started(clock: &impl Clock) -> Timer {
+    pub fn started(clock: &impl Clock) -> Timer
+        ensures { nanos_passed result ≡ 0 }
+    {
         Timer {
             start: Instant::now(clock).ok(),
             passed: Duration::ZERO,
@@ -36,26 +43,44 @@ impl Timer {
     }
 
     /// The whole seconds that have passed.
-    pub fn seconds(&self) -> u64 {
+    pub fn seconds(&self) -> u64
+        ensures { result ≡ seconds_passed self.now }
+    {
         self.passed.as_secs()
     }
 
     /// Reads the clock, where questions don't come so quickly that it can wait.
-    pub fn look(&mut self, clock: &impl Clock) {
+    pub fn look(&mut self, clock: &impl Clock)
+        ensures { IsReadAgain self.old self.new }
+    {
         if self.skips > 0 {
             self.skips -= 1;
         } else {
-            let _unread = self.read(clock);
+            self.read(clock);
         }
     }
 
-    /// Reads the clock. `None` where it fails or has gone backwards.
-    pub fn read(&mut self, clock: &impl Clock) -> Option<()> {
-        let start = self.start?;
-        let passed = Instant::now(clock).ok()?.checked_duration_since(start)?;
-        let step = passed.checked_sub(self.passed)?;
-        self.passed = passed;
-        self.skips = if step.as_nanos() < QUICK { SKIPPED } else { 0 };
-        Some(())
+    /// Reads the clock.
+    pub fn read(&mut self, clock: &impl Clock)
+        ensures { IsReadAgain self.old self.new }
+    {
+        if let Some(start) = self.start
+            && let Ok(now) = Instant::now(clock)
+        {
+            self.turn(start, now);
+        }
+    }
+
+    // What passed between two readings is what passed, unless more had passed before.
+    fn turn(&mut self, start: Instant, now: Instant)
+        ensures passed { nanos_passed self.new ≡ max (nanos_passed self.old) (nanos_behind start now) }
+        ensures start { self.new.start ≡ self.old.start }
+    {
+        if let Some(passed) = now.checked_duration_since(start)
+            && let Some(step) = passed.checked_sub(self.passed)
+        {
+            self.passed = passed;
+            self.skips = if step.as_nanos() < QUICK { SKIPPED } else { 0 };
+        }
     }
 }

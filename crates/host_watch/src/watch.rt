@@ -1,18 +1,19 @@
 //! The watch over the host's clock.
-ghost use Rattle.std.specs.Prelude.{◌≡◌, ◌+◌, ◌<◌, ◌^◌, false, None, IsTrue, if◌then◌else◌};
-ghost use Rattle.host_watch.specs.Host.{said_by, limits_in};
-ghost use Rattle.host_watch.specs.Narrow.{is_narrow};
+ghost use Rattle.std.specs.Prelude.{◌≡◌, ◌+◌, ◌<◌, ◌^◌, false, IsTrue, if◌then◌else◌};
+ghost use Rattle.watch_port.specs.Limits.{no_limits};
+ghost use Rattle.host_watch.specs.Host.{said_by, limits_in, timer_in, is_late, is_as_asked};
+ghost use Rattle.host_watch.specs.Timer.{nanos_passed, IsReadAgain};
 
 use crate::narrow::is_narrow;
 use crate::progress_line::ProgressLine;
 use crate::timer::Timer;
 use std::io::Eprint;
 use std::time::Clock;
-use watch_port::{Limits, Progress, Watch};
+use watch_port::{Limits, Progress, Watch, no_limits};
 
 /// A watch that goes by the host's clock: it says "enough" once the time of its limits is up, and where the gap is
 /// as narrow as they ask, and never by the gap where no plan is known. A clock that fails or goes backwards says
-/// nothing.
+/// nothing, and nothing is said without limits.
 ///
 /// It may tell standard error how far a search is: at most once a second, and once at the end of each.
 #[derive(Drop)]
@@ -33,15 +34,14 @@ pub struct HostWatch<R> {
 impl<R: Clock + Eprint> HostWatch<R> {
     /// The watch over a runtime's clock, which tells its standard error how far searches are, or doesn't.
     pub fn new(rt: R, tells: bool) -> HostWatch<R>
-        ensures { said_by result ≡ 0 }
+        ensures said { said_by result ≡ 0 }
+        ensures limits { limits_in result ≡ no_limits }
+        ensures time { nanos_passed (timer_in result) ≡ 0 }
     {
         HostWatch {
             rt,
             tells,
-            limits: Limits {
-                seconds: None,
-                gap: None,
-            },
+            limits: no_limits(),
             said: 0,
             timer: Timer::stopped(),
             due: 0,
@@ -53,10 +53,12 @@ impl<R: Clock + Eprint> HostWatch<R> {
     /// Tells how far the search was at the last question, unless its last line says just that. It is for the end of a
     /// search; where another one begins it is done.
     pub fn end(&mut self)
-        ensures { said_by self.new ≡ said_by self.old }
+        ensures said { said_by self.new ≡ said_by self.old }
+        ensures limits { limits_in self.new ≡ limits_in self.old }
+        ensures time { IsReadAgain (timer_in self.old) (timer_in self.new) }
     {
         if let Some(progress) = self.last.take() {
-            let _unread = self.timer.read(&self.rt);
+            self.timer.read(&self.rt);
             self.tell(progress);
         }
     }
@@ -65,6 +67,7 @@ impl<R: Clock + Eprint> HostWatch<R> {
     fn tell(&mut self, progress: Progress)
         ensures said { said_by self.new ≡ said_by self.old }
         ensures limits { limits_in self.new ≡ limits_in self.old }
+        ensures time { timer_in self.new ≡ timer_in self.old }
     {
         let line = ProgressLine {
             seconds: self.timer.seconds(),
@@ -80,6 +83,7 @@ impl<R: Clock + Eprint> HostWatch<R> {
     fn tell_by_the_second(&mut self, progress: Progress)
         ensures said { said_by self.new ≡ said_by self.old }
         ensures limits { limits_in self.new ≡ limits_in self.old }
+        ensures time { timer_in self.new ≡ timer_in self.old }
     {
         self.last = Some(progress);
         let seconds = self.timer.seconds();
@@ -93,20 +97,18 @@ impl<R: Clock + Eprint> HostWatch<R> {
     fn look(&mut self)
         ensures said { said_by self.new ≡ said_by self.old }
         ensures limits { limits_in self.new ≡ limits_in self.old }
+        ensures time { IsReadAgain (timer_in self.old) (timer_in self.new) }
     {
         if self.tells || self.limits.seconds.is_some() {
             self.timer.look(&self.rt);
         }
     }
 
-    // Whether the time is up.
-    fn is_late(&self) -> bool
-        ensures { (limits_in self.now).seconds ≡ None → result ≡ false }
+    // Whether the search is as far as its limits ask, or has gone on for as long.
+    fn is_as_asked(&self, progress: Progress) -> bool
+        ensures { result ≡ is_as_asked (limits_in self.now) progress (timer_in self.now) }
     {
-        match self.limits.seconds {
-            Some(seconds) => self.timer.seconds() >= u64::from(seconds),
-            None => false,
-        }
+        is_narrow(self.limits.gap, progress) || is_late(self.limits.seconds, self.timer.seconds())
     }
 
     // Says "enough". What can't be counted isn't said.
@@ -114,6 +116,7 @@ impl<R: Clock + Eprint> HostWatch<R> {
         ensures counts { said_by self.new ≡ (if result then 1 + said_by self.old else said_by self.old) }
         ensures says { said_by self.old + 1 < 2 ^ 64 → IsTrue result }
         ensures limits { limits_in self.new ≡ limits_in self.old }
+        ensures time { timer_in self.new ≡ timer_in self.old }
     {
         match self.said.checked_add(1) {
             Some(said) => {
@@ -126,11 +129,14 @@ impl<R: Clock + Eprint> HostWatch<R> {
 }
 
 impl<R: Clock + Eprint> Watch for HostWatch<R> {
-    ghost enoughs = { λ w. w.said };
+    ghost enoughs = { said_by };
+
+    ghost goes_by = { limits_in };
 
     fn begin(&mut self, limits: Limits)
         ensures kept { said_by self.new ≡ said_by self.old }
         ensures limits { limits_in self.new ≡ limits }
+        ensures time { nanos_passed (timer_in self.new) ≡ 0 }
     {
         self.end();
         self.limits = limits;
@@ -141,16 +147,28 @@ impl<R: Clock + Eprint> Watch for HostWatch<R> {
 
     fn is_enough(&mut self, progress: Progress) -> bool
         ensures counts { said_by self.new ≡ (if result then 1 + said_by self.old else said_by self.old) }
-        ensures limits { limits_in self.new ≡ limits_in self.old }
-        ensures narrow { said_by self.old + 1 < 2 ^ 64 → IsTrue (is_narrow (limits_in self.old).gap progress) → IsTrue result }
-        ensures timeless { (limits_in self.old).seconds ≡ None → IsTrue result → IsTrue (is_narrow (limits_in self.old).gap progress) }
+        ensures kept { limits_in self.new ≡ limits_in self.old }
+        ensures unlimited { limits_in self.old ≡ no_limits → result ≡ false }
+        ensures time { IsReadAgain (timer_in self.old) (timer_in self.new) }
+        ensures asked { IsTrue result → IsTrue (is_as_asked (limits_in self.old) progress (timer_in self.new)) }
+        ensures says { said_by self.old + 1 < 2 ^ 64 → IsTrue (is_as_asked (limits_in self.old) progress (timer_in self.new)) → IsTrue result }
     {
         self.look();
         self.tell_by_the_second(progress);
-        if is_narrow(self.limits.gap, progress) || self.is_late() {
+        if self.is_as_asked(progress) {
             self.say()
         } else {
             false
         }
+    }
+}
+
+// Whether so many seconds are all that a limit gives, where there is one.
+fn is_late(limit: Option<u32>, passed: u64) -> bool
+    ensures { result ≡ is_late limit passed }
+{
+    match limit {
+        Some(seconds) => passed >= u64::from(seconds),
+        None => false,
     }
 }

@@ -6,6 +6,7 @@ use Rattle.number_words.specs.Number.{is_plain_number}
 use Rattle.number_words.specs.Cost.{units_of, decimals_of}
 use Rattle.fixed_cost.specs.Amount.{amount_of, count_of}
 use Rattle.watch_port.specs.declared.limits.Limits.{Limits}
+use Rattle.watch_port.specs.Limits.{no_limits}
 use Rattle.limit_words.specs.declared.seconds.TheConstants.{MAX_SECONDS}
 
 -- the count that a word is, where it is just how that count is printed
@@ -42,9 +43,6 @@ gap_in word = if bytes_eq (take 4 word) (codes "gap=") then per_cent (drop 4 wor
 
 abbrev pub limits_with : Option ℕ → Option ℕ → Limits
 limits_with seconds gap = record { seconds = seconds; gap = gap }
-
-abbrev pub no_limits : Limits
-no_limits = limits_with None None
 
 -- what a word gives, where nothing is given yet
 abbrev pub taken_once : Option ℕ → Option ℕ → Option ℕ

@@ -16,8 +16,8 @@ mod seconds;
 mod words;
 
 pub use seconds::MAX_SECONDS;
-pub use watch_port::Limits;
-pub use words::{limits_given, no_limits, with_limit};
+pub use watch_port::{Limits, no_limits};
+pub use words::{limits_given, with_limit};
 
 #[cfg(test)]
 mod tests;

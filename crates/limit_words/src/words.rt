@@ -1,21 +1,11 @@
 //! The words that limit a search.
 ghost use Rattle.std.specs.Prelude.{◌≡◌};
-ghost use Rattle.limit_words.specs.Limits.{taken_once, with_limit, limits_given, no_limits};
+ghost use Rattle.limit_words.specs.Limits.{taken_once, with_limit, limits_given};
 
 use crate::gap::gap;
 use crate::seconds::seconds;
 use number_words::LineWords;
-use watch_port::Limits;
-
-/// No limit at all.
-pub fn no_limits() -> Limits
-    ensures { result ≡ no_limits }
-{
-    Limits {
-        seconds: None,
-        gap: None,
-    }
-}
+use watch_port::{Limits, no_limits};
 
 /// The limits that stand, and the one that a word gives; `None` where the word is no limit, or one that is
 /// given already.

@@ -8,7 +8,7 @@ const IDS_SPENT: &str =
     "dualoc-instance 1\nsites 2 next 4294967295\ncustomers 3 next 4\ncount 0 3000\ncustomer 1 0\ncustomer 2 0\ncustomer 3 0\nsite 1 10 none 1 2 9\nsite 2 12 none 8 7 1\nend\n";
 
 // Lines over the two sites, and what is printed, where a star stands for a number.
-const ON_TWO_SITES: [(&str, &str); 14] = [
+const ON_TWO_SITES: [(&str, &str); 13] = [
     (
         "solve\nfixed 1 30\nsolve 0\nundo\nsolve 0\n",
         "optimal 22.000000 made 0 nodes 1\nok\noptimal 28.000000 made 0 nodes 1\nok\noptimal 22.000000 made 0 nodes 1\n",
@@ -55,11 +55,6 @@ const ON_TWO_SITES: [(&str, &str); 14] = [
     (
         "addsite 3 none none none 1\nsolve\nundo\naddsite 0 0 1 1\naddsite 3 none none none 1\n",
         "ok site 3\noptimal 17.000000 made * nodes *\nok\nrefused LaneCount\nok site 3\n",
-    ),
-    // Limits are no edit.
-    (
-        "limit seconds=3\nlimit gap=0.5 seconds=1\nsolve\nlimit\nlimit seconds=0\nlimit gap=1 gap=2\nlimit 5\nundo\nsolve\n",
-        "ok\nok\noptimal 22.000000 made 0 nodes 1\nok\nrefused BadCommand\nrefused BadCommand\nrefused BadCommand\nrefused NothingToUndo\noptimal 22.000000 made 0 nodes 1\n",
     ),
     // A capacity below the demand of each customer.
     (

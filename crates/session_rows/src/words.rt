@@ -5,7 +5,7 @@ use std::alloc::Global;
 use std::test::Fail;
 
 // Words over the file of the two sites, and what is printed.
-const REFUSED: [(&str, Status, &str); 10] = [
+const REFUSED: [(&str, Status, &str); 9] = [
     ("session", Status::Usage, "usage\n"),
     ("session ufl", Status::Usage, "usage\n"),
     ("session ufl ", Status::Usage, "usage\n"),
@@ -13,7 +13,6 @@ const REFUSED: [(&str, Status, &str); 10] = [
     ("session ufl a b", Status::Usage, "usage\n"),
     ("session ufl a budget=1", Status::Usage, "usage\n"),
     ("session ufl a capacity=1", Status::Usage, "usage\n"),
-    ("session ufl a seconds=1", Status::Usage, "usage\n"),
     ("session ufl b", Status::ReadFault, "read fault\n"),
     (
         "session own a",

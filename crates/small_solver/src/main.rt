@@ -1,33 +1,38 @@
-//! The program over another solver: whoever has a way of their own to search writes a strategy and the lines that
-//! call the search with it, and all that is promised of an answer is promised of theirs. Everything is printed to
-//! standard output, and the program ends with the status's number.
+//! The program with another solver: whoever has a way of their own to search writes a strategy and these lines, and
+//! each promise of the program stays as it is. Everything is printed to standard output, and the program ends with the
+//! status's number.
 #![tactic(auto)]
 
 mod in_turn;
 
 use dualoc_cli::{Status, run};
-use host_watch::{HostWatch, program_words};
 use in_turn::InTurnSolver;
 use shelf_port::{RealShelf, RealSink, RealSource};
+use std::env;
 use std::process::ExitCode;
+use watch_port::NoWatch;
 
 fn main(rt: HostRuntime) -> ExitCode {
-    let Ok(words) = program_words(&rt) else {
-        return ExitCode::from(Status::NoMemory.number());
+    let status = match env::args(&rt) {
+        Ok(words) => match words.skip(1).collect(rt.alloc()) {
+            Ok(words) => {
+                let words: Vec<String> = words;
+                let mut shelf = RealShelf::new(&rt);
+                let mut input = RealSource::new(&rt);
+                let mut out = RealSink::new(&rt);
+                run(
+                    rt.alloc(),
+                    &words,
+                    InTurnSolver,
+                    &mut shelf,
+                    &mut input,
+                    &mut out,
+                    &mut NoWatch,
+                )
+            }
+            Err(_) => Status::NoMemory,
+        },
+        Err(_) => Status::Usage,
     };
-    let mut shelf = RealShelf::new(&rt);
-    let mut input = RealSource::new(&rt);
-    let mut out = RealSink::new(&rt);
-    let mut watch = HostWatch::new(&rt, words.tells);
-    let status = run(
-        rt.alloc(),
-        &words.words,
-        InTurnSolver,
-        &mut shelf,
-        &mut input,
-        &mut out,
-        &mut watch,
-    );
-    watch.end();
     ExitCode::from(status.number())
 }

@@ -2,6 +2,9 @@
 //! no answer, and a standard error that takes nothing is no fault.
 #![tactic(auto)]
 
+mod why;
+
+use crate::why::Why;
 use empty_reasons::reason_of;
 use instance_store::{Instance, NoMemory};
 use lane_order::LaneOrder;
@@ -32,8 +35,19 @@ impl<S: Solver, R: Eprint> ToldSolver<S, R> {
         if let Answer::Infeasible { .. } = answer
             && let Some(reason) = reason_of(inst)
         {
-            let _untold = self.rt.eprintln(reason);
+            let _untold = self.rt.eprintln(Why {
+                sites: sites_asked(inst, aim),
+                reason,
+            });
         }
+    }
+}
+
+// The number of open sites for which an instance stands, where it is one of many that were asked about.
+fn sites_asked(inst: &Instance, aim: Aim) -> Option<u32> {
+    match aim {
+        Aim::CurveEntry => Some(inst.count().1),
+        _ => None,
     }
 }
 

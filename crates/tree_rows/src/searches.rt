@@ -13,7 +13,7 @@ use std::alloc::Global;
 use std::test::Fail;
 use strategy_port::{Move, Scene, Strategy, Wish};
 use tree_search::{Answer, NoWatch, PlainStrategy, Searched, Tree, Watch, grow, max_nodes};
-use watch_port::KthWatch;
+use watch_port::{KthWatch, Limits};
 
 // Proposes the one plan of two warehouses, each of which serves the other customer, and then these duals for whole
 // knapsacks, in each box.
@@ -97,7 +97,7 @@ fn searched<S: Strategy, W: Watch>(
 fn plain(alloc: Global, inst: &Instance, budget: u32) -> Result<Answer, NoMemory>
     requires { IsWithin inst.now budget }
 {
-    let found = searched(alloc, inst, &mut PlainStrategy, budget, &mut NoWatch)?;
+    let found = searched(alloc, inst, &mut PlainStrategy, budget, &mut NoWatch::new())?;
     Ok(found.answer)
 }
 
@@ -156,7 +156,7 @@ fn closes_whole(
         return Ok(false);
     }
     let mut strategy = OneWhole { values, turn: 0 };
-    let found = searched(alloc, inst, &mut strategy, 1, &mut NoWatch)?;
+    let found = searched(alloc, inst, &mut strategy, 1, &mut NoWatch::new())?;
     match found.answer {
         Answer::Optimal {
             cost: found,
@@ -183,6 +183,12 @@ fn whole_knapsacks_close_a_leaf(rt: HostRuntime) -> Result<(), Fail> {
     Ok(())
 }
 
+// What limits the searches that a watch ends, which reads no clock.
+const A_SECOND: Limits = Limits {
+    seconds: Some(1),
+    gap: None,
+};
+
 // Whether a plain search that a watch ends behind so many questions answers what a plain one does with the budget that
 // is left of this one.
 fn leaves_its_budget(
@@ -195,6 +201,7 @@ fn leaves_its_budget(
         return Ok(false);
     }
     let mut watch = KthWatch::after(quiet);
+    watch.begin(A_SECOND);
     let found = searched(alloc, inst, &mut PlainStrategy, budget, &mut watch)?;
     let left = found.budget;
     if left > max_nodes(inst) {

@@ -21,6 +21,7 @@ use Rattle.location_terms.specs.declared.split.Split.TheVariants.{Site, Lane}
 use Rattle.branch_tree.specs.Growing.{Growing, leaf_at_work, worked, split_in_two}
 use Rattle.branch_tree.specs.Built.{IsBuiltOf}
 use Rattle.branch_tree.proofs.Built.{built_leaves, built_with_duals, built_split, built_replaced, built_but_weaker, done_split, done_whole}
+use Rattle.watch_port.specs.declared.limits.Limits.{Limits}
 use Rattle.tree_search.specs.Made.{IsMadeLeaf, NeedsSplit, IsOpenSplit, IsDueSplit}
 use Rattle.tree_search.specs.Making.{LowersNone}
 use Rattle.tree_search.specs.Answer.{cost_in}
@@ -92,7 +93,7 @@ module _ (I : Instance) (base : Path) (old : Duals) (handed plan plan' : Option 
   reached_at =
       all_at (λ l. IsReached I base l.0 l.1) _ (g.left - 1) (path, d) (built_leaves (IsReached I base) AnySplit g.tree.root g.base growing.reached) at_work
 
-  module _ (valid : IsValid I) (s' : Spent) (said said' : ℕ) (heard : IsHeard s s' said said') (e : Duals) (split : Option Split) (later : IsNoWorse I plan' plan) (is : IsWorked I plan' (has_split_left s') old path e split) where
+  module _ (valid : IsValid I) (s' : Spent) (said said' : ℕ) (limits now : Limits) (heard : IsHeard s s' said said' limits now) (e : Duals) (split : Option Split) (later : IsNoWorse I plan' plan) (is : IsWorked I plan' (has_split_left s') old path e split) where
     made_here : IsMadeLeaf I (cost_in I plan') base old path e
     made_here = is.made base reached_at.lowers
 
@@ -128,14 +129,14 @@ module _ (I : Instance) (base : Path) (old : Duals) (handed plan plan' : Option 
         reached = built_with_duals (IsReached I base) AnySplit g path d at_work growing.reached e (record { known = reached_at.known; lowers = reached_at.lowers; fit = fits_here });
         done =
             built_replaced (IsDoneLeaf I base old plan' s') (IsDueSplit I (cost_in I handed)) path d (Leaf e) leaf_done g.tree.root g.base g.left (g.left - 1) (omega (arith, left)) at_work
-            (built_but_weaker (IsDoneLeaf I base old plan s) (IsDoneLeaf I base old plan' s') (IsDueSplit I (cost_in I handed)) (IsDueSplit I (cost_in I handed)) (done_still I base old plan' plan s' s later heard.left.within (omega (arith, heard.same))) (λ p s h. h) g.tree.root g.base g.left growing.done);
+            (built_but_weaker (IsDoneLeaf I base old plan s) (IsDoneLeaf I base old plan' s') (IsDueSplit I (cost_in I handed)) (IsDueSplit I (cost_in I handed)) (done_still I base old plan' plan s' s later heard.spent.left.within (omega (arith, heard.same))) (λ p s h. h) g.tree.root g.base g.left growing.done);
         count = omega (arith, same_nodes, growing.count, heard.same);
         within = within;
         no_worse = no_worse_again I plan' plan handed later growing.no_worse;
       }
 
       pub finished_less : steps_left s' after < steps_left s g
-      finished_less = omega (arith, heard.same, heard.left.within, left)
+      finished_less = omega (arith, heard.same, heard.spent.left.within, left)
 
     -- the leaf at work is split
     module _ (x : Split) (some : split ≡ Some x) (first : Duals) (same : first ≡ e) where
@@ -162,7 +163,7 @@ module _ (I : Instance) (base : Path) (old : Duals) (handed plan plan' : Option 
 
       -- the numbers of nodes stay small
       pub few_split : s.budget + 3 < 2 ^ 32 → nodes_of g.tree + 2 < 2 ^ 32
-      few_split few = omega (arith, few, room, heard.same, heard.left.within, growing.count)
+      few_split few = omega (arith, few, room, heard.same, heard.spent.left.within, growing.count)
 
       lowers_first : LowersNone I base (path ++ first_step x ∷ [])
       lowers_first d = omega (arith, ints, reached_at.lowers d, first_rises I path valid x halved.1 d)
@@ -180,7 +181,7 @@ module _ (I : Instance) (base : Path) (old : Duals) (handed plan plan' : Option 
             (record { known = known_more I path (second_step x) reached_at.known (second_known I path x known); lowers = lowers_second; fit = fits_here });
         done =
             done_split (IsDoneLeaf I base old plan' (with_split s')) (IsDueSplit I (cost_in I handed)) g left path d at_work
-            (built_but_weaker (IsDoneLeaf I base old plan s) (IsDoneLeaf I base old plan' (with_split s')) (IsDueSplit I (cost_in I handed)) (IsDueSplit I (cost_in I handed)) (done_still I base old plan' plan (with_split s') s later heard.left.within (omega (arith, heard.same))) (λ p s h. h) g.tree.root g.base g.left growing.done)
+            (built_but_weaker (IsDoneLeaf I base old plan s) (IsDoneLeaf I base old plan' (with_split s')) (IsDueSplit I (cost_in I handed)) (IsDueSplit I (cost_in I handed)) (done_still I base old plan' plan (with_split s') s later heard.spent.left.within (omega (arith, heard.same))) (λ p s h. h) g.tree.root g.base g.left growing.done)
             x first e (halved.2 handed (no_worse_again I plan' plan handed later growing.no_worse), halved.1);
         count = omega (arith, more_nodes, growing.count, heard.same);
         within = room;
@@ -188,7 +189,7 @@ module _ (I : Instance) (base : Path) (old : Duals) (handed plan plan' : Option 
       }
 
       pub halves_less : steps_left (with_split s') after_split < steps_left s g
-      halves_less = omega (arith, room, heard.same, heard.left.within, left)
+      halves_less = omega (arith, room, heard.same, heard.spent.left.within, left)
 
 -- the same of the instance that the incumbent is of
 pub growing_on : (I J : Instance) (base : Path) (old : Duals) (handed plan plan' : Option Plan) (before : ℕ) (s s' : Spent) (g g' : Growing) → J ≡ I → ((x : Path) (h : Option Plan) (n : ℕ) → IsGrowing J x old h plan n s g → IsGrowing J x old h plan' n s' g') → IsGrowing I base old handed plan before s g → IsGrowing I base old handed plan' before s' g'

@@ -1,8 +1,10 @@
 -- For private functions alone: no public contract cites this page.
 -- How much of its budget a search has spent.
-use Rattle.std.specs.Prelude.{◌≡◌, ℕ, ◌+◌, ◌-◌, Bool, leb, refl}
+use Rattle.std.specs.Prelude.{◌≡◌, ◌⊎◌, ℕ, ◌+◌, ◌-◌, ◌≤◌, Bool, leb, refl}
 use Rattle.std.specs.Coded.{Coded, code_by, coded_ℕ, coded×}
+use Rattle.watch_port.specs.declared.limits.Limits.{Limits}
 use Rattle.watch_port.specs.Left.{IsBudgetLeft}
+use Rattle.watch_port.specs.Limits.{no_limits}
 
 -- the budget in force, and how many nodes were made
 pub record Spent : Type 0 where
@@ -25,8 +27,15 @@ has_split_left s = leb 2 (s.budget - s.made)
 abbrev pub with_split : Spent → Spent
 with_split s = record s { made = s.made + 2 }
 
--- A watch was asked, which had said "enough" so often before and after. It leaves the nodes as they are, and less of the budget only where it
--- said it in between.
-pub record IsHeard (old new : Spent) (before after : ℕ) : Type 0 where
-  pub left : IsBudgetLeft old.budget new.budget before after
+-- Between two moments of a search: the watch had said "enough" so often before and after, and went by these limits before and after. What is left of the budget is as the watch said,
+-- what was made since are splits within it, and a watch that has no limits said nothing.
+pub record IsSpent (old new : Spent) (before after : ℕ) (limits now : Limits) : Type 0 where
+  pub left : IsBudgetLeft old.budget new.budget new.made before after
+  pub made : (new.made ≡ old.made) ⊎ ((old.made + 2 ≤ new.made) × (new.made ≤ new.budget))
+  pub kept : now ≡ limits
+  pub unlimited : limits ≡ no_limits → after ≡ before
+
+-- the same where no split was made
+pub record IsHeard (old new : Spent) (before after : ℕ) (limits now : Limits) : Type 0 where
+  pub spent : IsSpent old new before after limits now
   pub same : new.made ≡ old.made

@@ -4,10 +4,12 @@ ghost use Rattle.location_terms.specs.Instance.{site_ids, customer_ids};
 ghost use Rattle.location_terms.specs.Leaf.{LeafFits};
 ghost use Rattle.location_terms.specs.Tree.{StandsOn, leaves_of, nodes_of};
 ghost use Rattle.lane_order.specs.Order.{IsOrderOf};
-ghost use Rattle.tree_search.specs.Answer.{AreHeld, IsSearchStart, IsAnswerTo, cost_in};
+ghost use Rattle.tree_search.specs.Answer.{AreHeld, IsSearchStart, IsAnswerTo, made_in, cost_in};
 ghost use Rattle.tree_search.specs.Best.{Improves};
 ghost use Rattle.tree_search.specs.Regrown.{IsKnownLeaf, HaveEnded, IsGrownAt, IsRegrownFrom, Answers};
+ghost use Rattle.tree_search.specs.Spending.{IsSpent};
 ghost use Rattle.watch_port.specs.Left.{IsBudgetLeft};
+ghost use Rattle.watch_port.specs.Limits.{no_limits};
 
 use crate::answer::{Answer, Searched};
 use crate::incumbent::plan_cost;
@@ -33,7 +35,8 @@ use watch_port::Watch;
 ///
 /// The watch is asked before each box and between moves. Once it says "enough" the budget is the lesser of it and of
 /// one more than the nodes made so far: no split follows, the strategy isn't asked any more, and each leaf that is
-/// still to be replaced gets an ascent and a packed plan alone. The answer is for the budget that is left.
+/// still to be replaced gets an ascent and a packed plan alone. The answer is for the budget that is left. A watch that
+/// has no limits says nothing, and its limits stay as they are.
 pub fn grow<S: Strategy, W: Watch>(
     alloc: Global,
     inst: &Instance,
@@ -48,8 +51,10 @@ pub fn grow<S: Strategy, W: Watch>(
     requires order { IsOrderOf order.now inst.now }
     requires start { IsSearchStart inst.now tree held.now plan budget }
     ensures answer { IfOk result (λ r. IsAnswerTo inst.now tree plan r.budget r.answer) }
-    ensures left { IfOk result (λ r. IsBudgetLeft budget r.budget (W.enoughs watch.old) (W.enoughs watch.new)) }
+    ensures left { IfOk result (λ r. IsBudgetLeft budget r.budget (made_in r.answer) (W.enoughs watch.old) (W.enoughs watch.new)) }
     ensures counts { W.enoughs watch.old ≤ W.enoughs watch.new }
+    ensures limits { W.goes_by watch.new ≡ W.goes_by watch.old }
+    ensures unlimited { W.goes_by watch.old ≡ no_limits → W.enoughs watch.new ≡ W.enoughs watch.old }
 {
     // An instance is valid, so that the numbers of nodes are small.
     let _sites = inst.sites();
@@ -80,7 +85,7 @@ fn grow_open<S: Strategy, W: Watch>(
     requires few { nodes_of tree + spending.old.budget + 3 < 2 ^ 32 }
     ensures plan { OnOk result (Improves search.old.best search.new.best) }
     ensures grown { IfOk result (λ t. IsRegrownFrom search.old.best.instance tree search.old.best.plan search.new.best.plan spending.new.budget t spending.new.made) }
-    ensures left { IsBudgetLeft spending.old.budget spending.new.budget (W.enoughs watch.old) (W.enoughs watch.new) }
+    ensures spent { IsSpent spending.old spending.new (W.enoughs watch.old) (W.enoughs watch.new) (W.goes_by watch.old) (W.goes_by watch.new) }
 {
     // The instance is valid, and the tree's splits are on its ids.
     let _sites = search.instance().sites();
@@ -128,7 +133,7 @@ fn grow_at<S: Strategy, W: Watch>(
     requires small { spending.old.budget + 3 < 2 ^ 32 }
     ensures plan { OnOk result (Improves search.old.best search.new.best) }
     ensures grown { IfOk result (λ r. IsGrownAt search.old.best.instance renewal search.old.best.plan search.new.best.plan spending.old.made spending.new r) }
-    ensures left { IsBudgetLeft spending.old.budget spending.new.budget (W.enoughs watch.old) (W.enoughs watch.new) }
+    ensures spent { IsSpent spending.old spending.new (W.enoughs watch.old) (W.enoughs watch.new) (W.goes_by watch.old) (W.goes_by watch.new) }
 {
     let (path, duals) = renewal.leaf();
     let growth = grow_leaf(search, strategy, watch, path, duals, spending)?;

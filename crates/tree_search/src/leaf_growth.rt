@@ -7,8 +7,8 @@ ghost use Rattle.location_terms.specs.Leaf.{LeafFits};
 ghost use Rattle.location_terms.specs.Tree.{nodes_of};
 ghost use Rattle.plan_search.specs.InBox.{IsPathOf};
 ghost use Rattle.tree_search.specs.Best.{Improves};
+ghost use Rattle.tree_search.specs.Spending.{IsSpent};
 ghost use Rattle.tree_search.specs.Working.{IsGrowing, IsGrownPart, steps_left};
-ghost use Rattle.watch_port.specs.Left.{IsBudgetLeft};
 
 use crate::search::Search;
 use crate::spending::Spending;
@@ -37,7 +37,7 @@ pub(crate) fn grow_leaf<'a, S: Strategy, W: Watch>(
     ensures plan { OnOk result (Improves search.old.best search.new.best) }
     ensures done { IfOk result (λ g. g.left ≡ 0) }
     ensures grown { IfOk result (λ g. IsGrownPart search.old.best.instance path.now replaced.now search.old.best.plan search.new.best.plan spending.old.made spending.new g.tree) }
-    ensures left { IsBudgetLeft spending.old.budget spending.new.budget (W.enoughs watch.old) (W.enoughs watch.new) }
+    ensures spent { IsSpent spending.old spending.new (W.enoughs watch.old) (W.enoughs watch.new) (W.goes_by watch.old) (W.goes_by watch.new) }
 {
     let base = path.copied()?;
     let duals = replaced.copied()?;
@@ -66,7 +66,7 @@ fn step<S: Strategy, W: Watch>(
         IsGrowing search.old.best.instance base replaced.now handed search.old.best.plan before spending.old growth.old →
         IsGrowing search.old.best.instance base replaced.now handed search.new.best.plan before spending.new growth.new) }
     ensures less { OnOk result (steps_left spending.new growth.new < steps_left spending.old growth.old) }
-    ensures left { IsBudgetLeft spending.old.budget spending.new.budget (W.enoughs watch.old) (W.enoughs watch.new) }
+    ensures spent { IsSpent spending.old spending.new (W.enoughs watch.old) (W.enoughs watch.new) (W.goes_by watch.old) (W.goes_by watch.new) }
 {
     // An instance is valid, so that no decision lowers a bound.
     let _sites = search.instance().sites();

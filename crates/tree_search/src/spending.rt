@@ -75,7 +75,7 @@ impl Spending {
     /// Tells the watch how far the search is, and what its best plan costs, unless it said "enough" before. Where it
     /// says so, no more is left of the budget than another split takes. Whether the search is over.
     pub(crate) fn hear<W: Watch>(&mut self, watch: &mut W, best: Option<u64>) -> bool
-        ensures { IsHeard self.old self.new (W.enoughs watch.old) (W.enoughs watch.new) }
+        ensures { IsHeard self.old self.new (W.enoughs watch.old) (W.enoughs watch.new) (W.goes_by watch.old) (W.goes_by watch.new) }
     {
         if self.is_over {
             return true;
@@ -136,8 +136,17 @@ impl Spending {
         };
         Progress {
             nodes: self.made,
-            low,
-            best,
+            low: above_nothing(low),
+            best: above_nothing(best),
         }
+    }
+}
+
+// An amount, where it isn't 0: in a search where nothing costs anything, as one for any plan at all, there is no gap,
+// and nothing but nodes to tell.
+fn above_nothing(amount: Option<u64>) -> Option<u64> {
+    match amount {
+        Some(0) => None,
+        known => known,
     }
 }

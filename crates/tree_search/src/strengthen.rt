@@ -37,7 +37,7 @@ pub(crate) fn strengthen<S: Strategy, W: Watch>(
     requires { IsSearchAt boxed.now search.old }
     ensures on { OnOk result (GoesOn boxed.now search.old search.new) }
     ensures closing { IfOk result (λ found. IfSome found (IsClosingLeaf boxed.now.instance search.new.best.plan boxed.now.path)) }
-    ensures heard { IsHeard spending.old spending.new (W.enoughs watch.old) (W.enoughs watch.new) }
+    ensures heard { IsHeard spending.old spending.new (W.enoughs watch.old) (W.enoughs watch.new) (W.goes_by watch.old) (W.goes_by watch.new) }
 {
     search.begin_asking();
     strategy.enter(&search.scene(boxed));

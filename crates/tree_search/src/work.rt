@@ -50,7 +50,7 @@ pub(crate) fn work<S: Strategy, W: Watch>(
     requires near { DualsFit search.old.best.instance near.now }
     ensures plan { OnOk result (Improves search.old.best search.new.best) }
     ensures worked { IfOk result (λ w. IsWorked search.old.best.instance search.new.best.plan (has_split_left spending.new) replaced.now path.now w.duals w.split) }
-    ensures heard { IsHeard spending.old spending.new (W.enoughs watch.old) (W.enoughs watch.new) }
+    ensures heard { IsHeard spending.old spending.new (W.enoughs watch.old) (W.enoughs watch.new) (W.goes_by watch.old) (W.goes_by watch.new) }
 {
     spending.hear(watch, search.cost());
     let boxed = PreparedBox::of(search.alloc, search.instance(), path)?;
@@ -78,7 +78,7 @@ fn rayless<S: Strategy, W: Watch>(
     requires rayless { IsRayless boxed.now.instance boxed.now.path }
     ensures plan { OnOk result (Improves search.old.best search.new.best) }
     ensures worked { IfOk result (λ w. IsWorked boxed.now.instance search.new.best.plan (has_split_left spending.new) replaced.now boxed.now.path w.duals w.split) }
-    ensures heard { IsHeard spending.old spending.new (W.enoughs watch.old) (W.enoughs watch.new) }
+    ensures heard { IsHeard spending.old spending.new (W.enoughs watch.old) (W.enoughs watch.new) (W.goes_by watch.old) (W.goes_by watch.new) }
 {
     search
         .leaf
@@ -102,7 +102,7 @@ fn made<S: Strategy, W: Watch>(
     ensures worked { IfOk result (λ w. (old : Prices) →
         ((old_path : Decisions) → LowersNone boxed.now.instance old_path boxed.now.path → IsMaking boxed.now.instance old_path old boxed.now.path search.old.leaf) →
         IsWorked boxed.now.instance search.new.best.plan (has_split_left spending.new) old boxed.now.path w.duals w.split) }
-    ensures heard { IsHeard spending.old spending.new (W.enoughs watch.old) (W.enoughs watch.new) }
+    ensures heard { IsHeard spending.old spending.new (W.enoughs watch.old) (W.enoughs watch.new) (W.goes_by watch.old) (W.goes_by watch.new) }
 {
     // An instance is valid, so that bounds hold.
     let _sites = search.instance().sites();
@@ -130,7 +130,7 @@ fn press<S: Strategy, W: Watch>(
     ensures on { OnOk result (GoesOn boxed.now search.old search.new) }
     ensures pressed { OnOk result (IsPressed boxed.now.instance search.new.best.plan boxed.now.path search.old.leaf.plain search.new.leaf.best.duals) }
     ensures closing { IfOk result (λ found. IfSome found (IsClosingLeaf boxed.now.instance search.new.best.plan boxed.now.path)) }
-    ensures heard { IsHeard spending.old spending.new (W.enoughs watch.old) (W.enoughs watch.new) }
+    ensures heard { IsHeard spending.old spending.new (W.enoughs watch.old) (W.enoughs watch.new) (W.goes_by watch.old) (W.goes_by watch.new) }
 {
     if is_closed(search, boxed) {
         return Ok(None);

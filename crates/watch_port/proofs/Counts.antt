@@ -1,31 +1,19 @@
--- Budgets of searches one behind the other.
-use Rattle.std.proofs.Common.{◌≡◌, ℕ, ◌≤◌, inl, inr, arith}
+-- What is left of a budget.
+use Rattle.std.proofs.Common.{◌≡◌, ℕ, ◌≤◌, inl, inr, refl, arith}
 use Rattle.std.proofs.lemmas.Bool.{cases_lt}
 use Rattle.watch_port.specs.Left.{IsBudgetLeft}
 
 -- before anything was asked all of it is left
-pub left_all : (budget said : ℕ) → IsBudgetLeft budget budget said said
-left_all budget said = record { within = omega arith; heard = λ less. absurd (omega arith); rises = omega arith }
+pub left_all : (budget made said : ℕ) → IsBudgetLeft budget budget made said said
+left_all budget made said = record { within = omega arith; ends = inl refl; heard = λ less. absurd (omega arith); obeyed = λ more. absurd (omega arith); rises = omega arith }
 
--- the counts go up or stay, and so does what the next search begins with
-pub never_falls : (given left before after : ℕ) → IsBudgetLeft given left before after → before ≤ after
-never_falls given left before after l = l.rises
-
--- one search behind the other
-pub left_behind : (given between left before amid after : ℕ) → IsBudgetLeft given between before amid → IsBudgetLeft between left amid after →
-    IsBudgetLeft given left before after
-left_behind given between left before amid after first second = record {
-  within = omega (arith, first.within, second.within);
-  heard = λ less. elim (cases_lt left between) [
-    | inl fewer ↦ omega (arith, first.rises, second.heard fewer)
-    | inr not_fewer ↦ omega (arith, first.heard (omega (arith, not_fewer)), second.rises)
-  ];
-  rises = omega (arith, first.rises, second.rises);
-}
+-- the counts go up or stay
+pub never_falls : (given left made before after : ℕ) → IsBudgetLeft given left made before after → before ≤ after
+never_falls given left made before after l = l.rises
 
 -- where the watch said nothing all of it is left
-pub left_whole : (given left said : ℕ) → IsBudgetLeft given left said said → left ≡ given
-left_whole given left said l =
+pub left_whole : (given left made said : ℕ) → IsBudgetLeft given left made said said → left ≡ given
+left_whole given left made said l =
     elim (cases_lt left given) [
       | inl less ↦ absurd (omega (arith, l.heard less))
       | inr not_less ↦ omega (arith, l.within, not_less)

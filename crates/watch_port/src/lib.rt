@@ -14,7 +14,7 @@ mod watch;
 
 pub use kth_watch::KthWatch;
 pub use laws::budgets_left;
-pub use limits::Limits;
+pub use limits::{Limits, no_limits};
 pub use no_watch::NoWatch;
 pub use progress::Progress;
 pub use watch::Watch;

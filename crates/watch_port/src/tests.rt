@@ -1,29 +1,28 @@
 use crate::*;
 
-/// Whether a watch says this at the next question.
-fn says<W: Watch>(watch: &mut W, enough: bool) -> bool {
-    watch.is_enough(Progress {
-        nodes: 0,
-        low: None,
-        best: None,
-    }) == enough
-}
+const SECOND: Limits = Limits {
+    seconds: Some(1),
+    gap: None,
+};
 
-/// Whether a watch that is quiet at two questions says "enough" from the third on, whatever its limits are.
-fn is_quiet_twice() -> bool {
-    let mut watch = KthWatch::after(2);
-    watch.begin(Limits {
-        seconds: Some(1),
-        gap: None,
-    });
-    says(&mut watch, false)
-        && says(&mut watch, false)
-        && says(&mut watch, true)
-        && says(&mut watch, true)
+const NOTHING: Progress = Progress {
+    nodes: 0,
+    low: None,
+    best: None,
+};
+
+/// What a watch says at three questions.
+fn three<W: Watch>(watch: &mut W, limits: Limits) -> [bool; 3] {
+    watch.begin(limits);
+    let first = watch.is_enough(NOTHING);
+    let second = watch.is_enough(NOTHING);
+    [first, second, watch.is_enough(NOTHING)]
 }
 
 #[test]
 fn a_watch_says_enough_behind_its_quiet_questions(rt: HostRuntime) {
-    assert!(rt; is_quiet_twice());
-    assert!(rt; says(&mut NoWatch, false));
+    assert!(rt; three(&mut NoWatch::new(), SECOND) == [false; 3]);
+    assert!(rt; three(&mut KthWatch::after(0), no_limits()) == [false; 3]);
+    assert!(rt; three(&mut KthWatch::after(0), SECOND) == [true; 3]);
+    assert!(rt; three(&mut KthWatch::after(2), SECOND) == [false, false, true]);
 }

@@ -1,5 +1,5 @@
 //! Searches of each form, which leave a plan and a certificate.
-use crate::ends::{budget_in, ends_in, line_at, word_at};
+use crate::ends::{budget_in, ends_in, line_at};
 use crate::noting::{ended, noted};
 use memory_runs::{Calls, NETWORK, Outcome, RING, Status, TWO_SITES_OWN, WAREHOUSES, WORDED, ran};
 use std::alloc::{AllocError, Global};
@@ -85,15 +85,11 @@ pub(crate) fn is_shown<'x>(
     })
 }
 
-// Whether the run ended with a whole answer, or with a bracket in whose line the budget is all that no further split
-// keeps to: as many nodes as the tree has, which began with one.
+// Whether the run ended with a bracket where its line has a budget, and with a whole answer else.
 fn ends_so(found: &Outcome) -> bool {
-    let line = line_at(found.text(), 0);
-    match found.status {
-        Status::Bracket => !budget_in(line).is_empty() && word_at(line, 4) == word_at(line, 6),
-        Status::Done | Status::Infeasible => budget_in(line).is_empty(),
-        _ => false,
-    }
+    let is_open = !budget_in(found.text()).is_empty();
+    (found.status == Status::Bracket) == is_open
+        && (is_open || found.status == Status::Done || found.status == Status::Infeasible)
 }
 
 // Whether a search with the budget that was printed, if one was, comes to ends no worse.

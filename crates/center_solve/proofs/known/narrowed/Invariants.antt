@@ -1,4 +1,5 @@
-use Rattle.std.proofs.Common.{◌-◌, ◌≤◌}
+use Rattle.std.proofs.Common.{◌≡◌, ◌-◌, ◌≤◌}
+use Rattle.watch_port.specs.Limits.{no_limits}
 use Rattle.center_solve.specs.Probing.{IsKnownSoFar}
 use Rattle.center_solve.proofs.known.narrowed.Given as goal
 
@@ -6,6 +7,8 @@ abbrev pub invariant-probes : goal.invariant-probes
 invariant-probes g l = record {
   known : IsKnownSoFar l.inst l.budget l.known;
   rises : g.W.Watch.enoughs l.fn.watch ≤ g.W.Watch.enoughs l.watch;
+  limits : g.W.Watch.goes_by l.watch ≡ g.W.Watch.goes_by l.fn.watch;
+  unlimited : g.W.Watch.goes_by l.fn.watch ≡ no_limits → g.W.Watch.enoughs l.watch ≡ g.W.Watch.enoughs l.fn.watch;
 }
 
 -- how far the two ends are apart

@@ -15,5 +15,5 @@ pub returns-in-Ok-clause-halted : goal.returns-in-Ok-clause-halted
 returns-in-Ok-clause-halted g c =
     halted (map string_bytes c.args.words.now) _ _ _ _ _ c.open.ensures.unchanged c.open.ensures.writes (file_in c.in-Some.file) (sym c.in-Some.ensures) c.in-Ok.inst c.in-Ok.ensures.reading c.held.result c.held.ensures.halted
 
-pub returns-clause-halted : goal.returns-clause-halted
-returns-clause-halted g c = λ later. no_row (map string_bytes c.args.words.now) _ _ _ c.open.ensures.unchanged later
+pub returns-in-Err-NoMemory-clause-halted : goal.returns-in-Err-NoMemory-clause-halted
+returns-in-Err-NoMemory-clause-halted g c = λ later. no_row (map string_bytes c.args.words.now) _ _ _ c.open.ensures.unchanged later

@@ -4,7 +4,7 @@ use Rattle.shelf_port.specs.Ports.{ShelfState, shelf_state}
 use Rattle.tree_search.specs.Budget.{max_budget, budget_in}
 use Rattle.dualoc_cli.specs.Command.{ResultFiles}
 use Rattle.dualoc_cli.specs.Step.{asked_result}
-use Rattle.dualoc_cli.proofs.Centering.{counted_within, center_large, none_kept, asked_cause, asked_keeps, never_refused}
+use Rattle.dualoc_cli.proofs.Centering.{counted_within, center_large, none_kept, asked_cause, asked_keeps}
 use Rattle.dualoc_cli.proofs.center.find_center.Goals as goal
 
 pub found-requires : goal.found-requires
@@ -53,6 +53,3 @@ returns-clause-keeps g c =
     let left = rw c.begin.ensures.kept at sought.ensures.left in
     asked_keeps (asked_result asks.into) asks.new.now asks.effort asks.count c.args.inst.now c.in_ok-counted.counted c.in-Some.budget sought.sought.budget _ _ sought.sought.answer old new
     c.in_ok-counted.ensures c.in-Some.ensures.exact c.in-Some.ensures.small left sought.ensures.found c.leave.ensures.begun
-
-pub returns-clause-untouched : goal.returns-clause-untouched
-returns-clause-untouched g c = never_refused (g.H.Shelf.files c.leave.new.shelf ≡ g.H.Shelf.files c.args.shelf.now) c.leave.result c.leave.ensures.result

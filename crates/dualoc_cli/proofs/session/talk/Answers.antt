@@ -105,7 +105,7 @@ returns-then-not-is_empty-clause-ended g c =
       AtEnd,
       refl,
       held_last _ _ _ _ _ _ so input _ (last_follows _ _ _ _ _ so.read input c.next.new.self c.next.ensures.is_line c.next.ensures.short ends all some) _ _ _ _
-          (none_behind_last _ _ _ _ _ so.read input c.next.new.self c.next.ensures.is_line c.next.ensures.short ends all some) answered.0 c.answer-then-not-is_empty.ensures.heard,
+          (none_behind_last _ _ _ _ _ so.read input c.next.new.self c.next.ensures.is_line c.next.ensures.short ends all some) answered.0 c.answer-in-Ok-End.ensures.heard,
     )
 
 pub returns-in_err-answer-in-Ok-End-clause-halted : goal.returns-in_err-answer-in-Ok-End-clause-halted
@@ -116,4 +116,4 @@ returns-in_err-answer-in-Ok-End-clause-halted g c =
     let follows = last_follows _ _ _ _ _ so.read input c.next.new.self c.next.ensures.is_line c.next.ensures.short (c.in-Ok-End.ensures.end (ap Ok c.in-Ok-End.field-0-is)) (c.in-Ok-End.ensures.all (ap Ok c.in-Ok-End.field-0-is)) some in
     let unanswered = rw c.line-then-not-is_empty.ensures at c.in_err-answer-in-Ok-End.ensures.unanswered in
     let p = err_from_is_err_and c.from_residual-in_err-answer-in-Ok-End.result c.from_residual-in_err-answer-in-Ok-End.ensures.1 in
-    rw (p.1, p.2) (halted _ _ _ _ _ _ so input _ follows _ _ _ _ c.answer-then-not-is_empty.ensures.heard unanswered)
+    rw (p.1, p.2) (halted _ _ _ _ _ _ so input _ follows _ _ _ _ c.answer-in-Ok-End.ensures.heard unanswered)

@@ -19,8 +19,8 @@ returns-in-Err-Faulty-clause-replied g c =
     let says = rw c.in-Err-Faulty.field-0-is at c.in-Err-Faulty.ensures in
     rw c.in-Err-Faulty.fault-is (faulty_replied (file_in c.args.asks.file) (asked_job c.args.asks.job) _ _ c.open.ensures.unchanged refl refl c.in-Err-Faulty.fault says.reading)
 
-pub returns-clause-halted : goal.returns-clause-halted
-returns-clause-halted g c = unopened_halted (file_in c.args.asks.file) (asked_job c.args.asks.job) _ _ c.open.ensures.unchanged refl refl
+pub returns-in-Err-NoMemory-clause-halted : goal.returns-in-Err-NoMemory-clause-halted
+returns-in-Err-NoMemory-clause-halted g c = unopened_halted (file_in c.args.asks.file) (asked_job c.args.asks.job) _ _ c.open.ensures.unchanged refl refl
 
 pub returns-in-Err-Failed-clause-keeps : goal.returns-in-Err-Failed-clause-keeps
 returns-in-Err-Failed-clause-keeps g c = unopened_kept (file_in c.args.asks.file) (asked_job c.args.asks.job) _ _ c.open.ensures.unchanged refl refl
@@ -31,8 +31,8 @@ returns-in-Err-TooLong-clause-keeps g c = unopened_kept (file_in c.args.asks.fil
 pub returns-in-Err-Faulty-clause-keeps : goal.returns-in-Err-Faulty-clause-keeps
 returns-in-Err-Faulty-clause-keeps g c = unopened_kept (file_in c.args.asks.file) (asked_job c.args.asks.job) _ _ c.open.ensures.unchanged refl refl
 
-pub returns-clause-keeps : goal.returns-clause-keeps
-returns-clause-keeps g c = unopened_kept (file_in c.args.asks.file) (asked_job c.args.asks.job) _ _ c.open.ensures.unchanged refl refl
+pub returns-in-Err-NoMemory-clause-keeps : goal.returns-in-Err-NoMemory-clause-keeps
+returns-in-Err-NoMemory-clause-keeps g c = unopened_kept (file_in c.args.asks.file) (asked_job c.args.asks.job) _ _ c.open.ensures.unchanged refl refl
 
 pub returns-in-Ok-clause-replied : goal.returns-in-Ok-clause-replied
 returns-in-Ok-clause-replied g c =

@@ -4,7 +4,7 @@ use Rattle.location_terms.specs.Plan.{Plan}
 use Rattle.location_terms.specs.Tree.{StandsOn, nodes_of}
 use Rattle.watch_port.specs.Left.{IsBudgetLeft}
 use Rattle.tree_search.specs.Spending.{Spent}
-use Rattle.tree_search.specs.Answer.{IsAnswerTo}
+use Rattle.tree_search.specs.Answer.{IsAnswerTo, made_in}
 use Rattle.tree_search.specs.Regrown.{IsRegrownFrom, HaveEnded, Answers}
 use Rattle.tree_search.proofs.Offered.{improved_in}
 use Rattle.tree_search.proofs.Regrows.{answers_to, few_nodes}
@@ -57,5 +57,12 @@ pub returns-clause-left : goal.returns-clause-left
 returns-clause-left g c =
     let before = g.W.Watch.enoughs c.args.watch.now in
     let after = g.W.Watch.enoughs c.grow_open.new.watch in
-    subst (λ b. IsBudgetLeft c.args.budget b before after) (sym c.budget.ensures)
-    (subst (λ (s : Spent). IsBudgetLeft s.budget c.grow_open.new.spending.budget before after) c.of-spending.ensures c.in_ok-tree.ensures.left)
+    let last = c.grow_open.new.search.best in
+    let s : Spent = c.grow_open.new.spending in
+    let ended : HaveEnded last.instance last.plan s.budget c.made.result c.in_ok-tree.tree =
+    subst (λ n. HaveEnded last.instance last.plan s.budget n c.in_ok-tree.tree) (sym c.made.ensures.exact)
+    (subst (λ (J : Instance). HaveEnded J last.plan s.budget s.made c.in_ok-tree.tree) (sym c.in_ok-tree.ensures.plan.same) c.in_ok-tree.ensures.grown.ended) in
+    let made : made_in c.in_ok-answer.answer ≡ s.made = (c.in_ok-answer.ensures s.budget ended).made_is ∙ c.made.ensures.exact in
+    subst (λ b. IsBudgetLeft c.args.budget b (made_in c.in_ok-answer.answer) before after) (sym c.budget.ensures)
+    (subst (λ n. IsBudgetLeft c.args.budget s.budget n before after) (sym made)
+    (subst (λ (x : Spent). IsBudgetLeft x.budget s.budget s.made before after) c.of-spending.ensures c.in_ok-tree.ensures.spent.left))

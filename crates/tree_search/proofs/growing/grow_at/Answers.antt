@@ -6,7 +6,7 @@ use Rattle.tree_search.proofs.growing.grow_at.Goals as goal
 pub give-requires-clause-few : goal.give-requires-clause-few
 give-requires-clause-few g c =
     let part = c.in_ok-growth.ensures.grown in
-    omega (arith, part.count, part.within, c.in_ok-growth.ensures.left.within, c.requires.few, c.requires.within)
+    omega (arith, part.count, part.within, c.in_ok-growth.ensures.spent.left.within, c.requires.few, c.requires.within)
 
 pub returns-clause-grown : goal.returns-clause-grown
 returns-clause-grown g c =

@@ -1,10 +1,9 @@
 use Rattle.std.proofs.Common.{◌≡◌, refl, sym, subst, ap, ◌∙◌, arith, true, false, length}
 use Rattle.std.specs.Prelude.{IfSome, slice_get}
 use Rattle.location_terms.specs.Instance.{Instance, IsValid, site_ids, customer_ids}
-use Rattle.tree_search.specs.Spending.{Spent}
+use Rattle.tree_search.specs.Spending.{Spent, IsSpent}
 use Rattle.tree_search.specs.Regrown.{IsKnownLeaf, IsGrownAt}
-use Rattle.watch_port.specs.Left.{IsBudgetLeft}
-use Rattle.watch_port.proofs.Counts.{left_all, left_behind}
+use Rattle.tree_search.proofs.Spends.{spent_same, spent_again}
 use Rattle.tree_search.proofs.Closer.{no_worse_same}
 use Rattle.tree_search.proofs.Offered.{improved_in, improves_again}
 use Rattle.tree_search.proofs.Regrows.{regrown_start, leaf_left, leaf_known, on_sites, on_customers, nodes_so_far, held_step, grown_step, regrown, told_at}
@@ -17,7 +16,7 @@ loop-place-init g c =
     record {
       improves = record { same = refl; no_worse = no_worse_same I c.args.search.now.best.plan };
       looked = regrown_start I valid c.args.tree c.args.search.now.best.plan c.args.held.now c.requires.held c.args.spending.now c.requires.fresh c.in_ok-renewal.renewal c.in_ok-renewal.ensures;
-      left = left_all c.args.spending.now.budget (g.W.Watch.enoughs c.args.watch.now);
+      spent = spent_same c.args.spending.now (g.W.Watch.enoughs c.args.watch.now) (g.W.Watch.goes_by c.args.watch.now);
     }
 
 pub stay-requires : goal.stay-requires
@@ -70,10 +69,10 @@ grow_at-requires-clause-few g c =
     let valid : IsValid I = subst IsValid c.instance.ensures c.sites-sites.ensures.valid in
     let nodes = nodes_so_far I valid c.args.tree c.args.search.now.best.plan c.args.held.now c.requires.held
     c.nodes-nodes.ensures.tree c.requires.stands c.requires.fit c.loop-place.search.best.plan c.loop-place.spending c.loop-place.renewal c.loop-place.place c.loop-place-test.true h.looked.0 h.looked.1 in
-    omega (arith, nodes, c.requires.few, h.looked.0.within, h.left.within, ap (λ (s : Spent). s.budget) c.begin.ensures.kept, ap (λ (s : Spent). s.made) c.begin.ensures.kept)
+    omega (arith, nodes, c.requires.few, h.looked.0.within, h.spent.left.within, ap (λ (s : Spent). s.budget) c.begin.ensures.kept, ap (λ (s : Spent). s.made) c.begin.ensures.kept)
 
 pub grow_at-requires-clause-small : goal.grow_at-requires-clause-small
-grow_at-requires-clause-small g c = omega (arith, c.requires.few, c.loop-place.invariant.left.within, ap (λ (s : Spent). s.budget) c.begin.ensures.kept)
+grow_at-requires-clause-small g c = omega (arith, c.requires.few, c.loop-place.invariant.spent.left.within, ap (λ (s : Spent). s.budget) c.begin.ensures.kept)
 
 pub loop-place-preserved-then-held-place : goal.loop-place-preserved-then-held-place
 loop-place-preserved-then-held-place g c =
@@ -85,7 +84,7 @@ loop-place-preserved-then-held-place g c =
       looked = held_step I valid c.args.tree c.args.search.now.best.plan c.args.held.now c.requires.held
           c.nodes-nodes.ensures.tree c.requires.stands c.requires.fit c.loop-place.search.best.plan c.loop-place.spending c.loop-place.renewal c.loop-place.place c.loop-place-test.true h.looked.0 h.looked.1
           (told_at c.args.held.now c.loop-place.place true c.loop-place-test.true c.if-held-place.true) h.improves.no_worse c.in_ok-renewal-2.renewal c.in_ok-renewal-2.ensures;
-      left = h.left;
+      spent = h.spent;
     }
 
 pub loop-place-preserved : goal.loop-place-preserved
@@ -100,22 +99,22 @@ loop-place-preserved g c =
     let grown : IsGrownAt I c.loop-place.renewal c.loop-place.search.best.plan now.plan s.made s' c.in_ok-grown.grown =
     subst (λ (J : Instance). IsGrownAt J c.loop-place.renewal c.loop-place.search.best.plan now.plan s.made s' c.in_ok-grown.grown) h.improves.same
     (subst (λ (x : Spent). IsGrownAt c.loop-place.search.best.instance c.loop-place.renewal c.loop-place.search.best.plan now.plan x.made s' c.in_ok-grown.grown) c.begin.ensures.kept c.in_ok-grown.ensures.grown) in
-    let left : IsBudgetLeft s.budget s'.budget (g.W.Watch.enoughs c.loop-place.watch) (g.W.Watch.enoughs c.grow_at.new.watch) =
-    subst (λ (x : Spent). IsBudgetLeft x.budget s'.budget (g.W.Watch.enoughs c.loop-place.watch) (g.W.Watch.enoughs c.grow_at.new.watch)) c.begin.ensures.kept c.in_ok-grown.ensures.left in
+    let spent : IsSpent s s' (g.W.Watch.enoughs c.loop-place.watch) (g.W.Watch.enoughs c.grow_at.new.watch) (g.W.Watch.goes_by c.loop-place.watch) (g.W.Watch.goes_by c.grow_at.new.watch) =
+    subst (λ (x : Spent). IsSpent x s' (g.W.Watch.enoughs c.loop-place.watch) (g.W.Watch.enoughs c.grow_at.new.watch) (g.W.Watch.goes_by c.loop-place.watch) (g.W.Watch.goes_by c.grow_at.new.watch)) c.begin.ensures.kept c.in_ok-grown.ensures.spent in
     record {
       improves = improves_again c.args.search.now.best c.loop-place.search.best now h.improves c.in_ok-grown.ensures.plan;
       looked = grown_step I valid c.args.tree c.args.search.now.best.plan c.args.held.now c.requires.held
           c.nodes-nodes.ensures.tree c.requires.stands c.requires.fit c.loop-place.search.best.plan s c.loop-place.renewal c.loop-place.place c.loop-place-test.true h.looked.0 h.looked.1
           now.plan s' c.in_ok-grown.grown grown
-          (told_at c.args.held.now c.loop-place.place false c.loop-place-test.true c.if-held-place.false) h.improves.no_worse better left.within;
-      left = left_behind _ _ _ _ _ _ h.left left;
+          (told_at c.args.held.now c.loop-place.place false c.loop-place-test.true c.if-held-place.false) h.improves.no_worse better spent.left.within;
+      spent = spent_again _ _ _ _ _ _ _ _ _ h.spent spent;
     }
 
 pub returns-clause-plan : goal.returns-clause-plan
 returns-clause-plan g c = c.loop-place.invariant.improves
 
-pub returns-clause-left : goal.returns-clause-left
-returns-clause-left g c = c.loop-place.invariant.left
+pub returns-clause-spent : goal.returns-clause-spent
+returns-clause-spent g c = c.loop-place.invariant.spent
 
 pub returns-clause-grown : goal.returns-clause-grown
 returns-clause-grown g c =

@@ -1,6 +1,6 @@
 use Rattle.tree_search.proofs.Offered.{improves_again}
 use Rattle.tree_search.proofs.Grew.{growing_on, grown_part}
-use Rattle.watch_port.proofs.Counts.{left_behind}
+use Rattle.tree_search.proofs.Spends.{spent_again}
 use Rattle.tree_search.proofs.leaf_growth.grow_leaf.Goals as goal
 
 pub loop-search-preserved : goal.loop-search-preserved
@@ -11,7 +11,7 @@ loop-search-preserved g c =
       growing =
           growing_on c.args.search.now.best.instance c.loop-search.search.best.instance c.args.path.now c.args.replaced.now c.args.search.now.best.plan c.loop-search.search.best.plan c.step.new.search.best.plan c.args.spending.now.made c.loop-search.spending c.step.new.spending c.loop-search.growth c.step.new.growth
           before.improves.same c.in_ok-step.ensures.growing before.growing;
-      left = left_behind _ _ _ _ _ _ before.left c.in_ok-step.ensures.left;
+      spent = spent_again _ _ _ _ _ _ _ _ _ before.spent c.in_ok-step.ensures.spent;
     }
 
 pub returns-clause-grown : goal.returns-clause-grown

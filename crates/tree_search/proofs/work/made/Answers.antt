@@ -65,4 +65,4 @@ returns-in-Some-clause-worked g c = λ old under.
     closing_worked I path plan (has_split_left c.press.new.spending) old c.in-Some.duals valid at.path closing
 
 pub returns-clause-heard : goal.returns-clause-heard
-returns-clause-heard g c = heard_again _ _ _ _ _ _ c.in_ok-duals.ensures.heard (heard_same _ _ _ c.note.ensures)
+returns-clause-heard g c = heard_again _ _ _ _ _ _ _ _ _ c.in_ok-duals.ensures.heard (heard_same _ _ _ _ c.note.ensures)

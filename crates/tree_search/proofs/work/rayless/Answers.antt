@@ -26,4 +26,4 @@ pub returns-clause-worked : goal.returns-clause-worked
 returns-clause-worked g c = c.in_ok-worked.ensures.worked c.args.replaced.now c.in_ok-enter.ensures.making
 
 pub returns-clause-heard : goal.returns-clause-heard
-returns-clause-heard g c = heard_again _ _ _ _ _ _ (heard_same _ _ _ c.note.ensures) c.in_ok-worked.ensures.heard
+returns-clause-heard g c = heard_again _ _ _ _ _ _ _ _ _ (heard_same _ _ _ _ c.note.ensures) c.in_ok-worked.ensures.heard
